@@ -1,0 +1,13 @@
+-- Numbers as little-endian bytes: the lowest byte stands first.
+use Prim.Native.Nat.{ℕ, zero, suc, _+_, _*_, _/_, _%_}
+use mathlib.Core.List.{List, [], _∷_}
+
+-- The k lowest bytes of n.
+abbrev pub bytesOf : ℕ → ℕ → List ℕ
+bytesOf zero n = []
+bytesOf (suc k) n = n % 256 ∷ bytesOf k (n / 256)
+
+-- The number that bytes stand for.
+abbrev pub numberOf : List ℕ → ℕ
+numberOf [] = 0
+numberOf (b ∷ bs) = b + 256 * numberOf bs

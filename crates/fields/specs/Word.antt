@@ -1,0 +1,23 @@
+-- The bits of a 32-bit word, as document 01 writes them: `31:16` are bits 31 down to 16.
+use Prim.Native.Nat.{ℕ, _+_, _*_, _-_, _/_, _%_, _^_, min}
+use Rattle.fields.specs.declared.Halves.{Halves}
+
+-- How many bits `hi:lo` names: hi + 1 - lo, but a word has none above bit 31. None where hi is below lo.
+abbrev pub width : ℕ → ℕ → ℕ
+width hi lo = min (hi + 1) 32 - lo
+
+-- Bits `hi:lo` of a word, as a number.
+abbrev pub bits : ℕ → ℕ → ℕ → ℕ
+bits word hi lo = word / 2 ^ lo % 2 ^ width hi lo
+
+-- The word with the lowest bits of value in `hi:lo`: what stands above, the field, what stands below.
+abbrev pub withBits : ℕ → ℕ → ℕ → ℕ → ℕ
+withBits word hi lo value =
+    word / 2 ^ (width hi lo + lo) * 2 ^ (width hi lo + lo) + value % 2 ^ width hi lo * 2 ^ lo + word % 2 ^ lo
+
+-- A word's halves, and the word of two halves.
+abbrev pub halvesOf : ℕ → Halves
+halvesOf word = record { low = bits word 15 0; high = bits word 31 16 }
+
+abbrev pub wordOfHalves : Halves → ℕ
+wordOfHalves h = withBits (h .low) 31 16 (h .high)
