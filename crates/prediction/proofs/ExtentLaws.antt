@@ -1,0 +1,32 @@
+-- The empty extent is exact for nothing, and the join of two exact extents for what either is exact for.
+use mathlib.Core.Path.{_≡_, _∙_}
+use mathlib.Core.Logic.{_⊎_, inl, inr}
+use Prim.Native.Nat.{ℕ, _+_, _≤_, _<_, max}
+use native.Mathlib.Omega.{arith}
+use Rattle.prediction.specs.Extents.{emptyExtent, joined, Exact}
+use Rattle.prediction.specs.declared.Extent.{Extent}
+use Rattle.prediction.proofs.Integers.{split}
+
+pub empty-exact : Exact (λ (byte : ℕ). ⊥) emptyExtent
+unfolding emptyExtent
+empty-exact = record { below = λ byte h. absurd h; reached = λ h. absurd (omega arith) }
+
+pub join-exact : {P Q : ℕ → Type 0} {a b : Extent} → Exact P a → Exact Q b → Exact (λ (byte : ℕ). P byte ⊎ Q byte) (joined a b)
+unfolding joined
+join-exact {P} {Q} {a} {b} p q = record { below = under; reached = λ h. top (split (a .end) (b .end)) h }
+  where
+    under : (byte : ℕ) → P byte ⊎ Q byte → byte < max (a .end) (b .end)
+    under byte (inl h) = omega (arith, p .below byte h)
+    under byte (inr h) = omega (arith, q .below byte h)
+
+    top : (a .end < b .end) ⊎ (b .end ≤ a .end) → 0 < max (a .end) (b .end) → (byte : ℕ) × (P byte ⊎ Q byte) × (byte + 1 ≡ max (a .end) (b .end))
+    top (inl l) h = let r = q .reached (omega arith) in (r .0, inr (r .1), omega (arith, r .2))
+    top (inr l) h = let r = p .reached (omega arith) in (r .0, inl (r .1), omega (arith, r .2))
+
+-- An extent is exact for whatever touches the same bytes.
+pub exact-same : {P Q : ℕ → Type 0} {e : Extent} → ((byte : ℕ) → P byte → Q byte) → ((byte : ℕ) → Q byte → P byte) → Exact P e → Exact Q e
+exact-same {P} {Q} {e} f g p =
+    record {
+      below = λ byte h. p .below byte (g byte h);
+      reached = λ h. let r = p .reached h in (r .0, f (r .0) (r .1), r .2);
+    }

@@ -1,0 +1,27 @@
+use mathlib.Core.Path.{_≡_, ap}
+use Prim.Native.Nat.{ℕ, max}
+use native.Mathlib.Omega.{arith}
+use Rattle.prediction.specs.Extents.{joined}
+use Rattle.prediction.specs.declared.Extent.{Extent}
+use Rattle.prediction.proofs.extents.join.Statement.{statement}
+use Rattle.prediction.proofs.extents.join.Tie as tie
+
+abbrev upTo : ℕ → Extent
+upTo n = record { end = n }
+
+returns : tie.Need-returns
+unfolding joined
+returns c =
+    let s = c .before .before .before .args in
+    let e : s .b .end ≡ max (s .a .end) (s .b .end) = omega arith in
+    ap upTo e
+
+returns-2 : tie.Need-returns-2
+unfolding joined
+returns-2 c =
+    let s = c .before .before .before .args in
+    let e : s .a .end ≡ max (s .a .end) (s .b .end) = omega arith in
+    ap upTo e
+
+pub join-spec : {M : Type 1} → statement M
+join-spec = tie.close (tie.spec returns returns-2)

@@ -1,0 +1,6 @@
+pub mod Vectors
+pub mod Ranges
+pub mod Spans
+pub mod Addresses
+pub mod Extents
+pub mod Blocks

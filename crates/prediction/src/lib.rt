@@ -1,0 +1,43 @@
+// Motion vectors, the samples they predict from, and the bytes those samples stand at. No other crate knows half samples,
+// chroma halving or byte addresses.
+mod addresses;
+pub mod blocks;
+pub mod extents;
+pub mod ranges;
+mod spans;
+pub mod vectors;
+
+// A motion vector in half samples, x to the right and y down.
+pub struct Vector {
+    pub x: i16,
+    pub y: i16,
+}
+
+// A picture buffer's layout: bytes from row to row, and the row at which chroma starts (document 01's C).
+pub struct Surface {
+    pub pitch: u32,
+    pub chroma_row: u16,
+}
+
+// The picture's size in macroblocks (document 01's W and H).
+pub struct Grid {
+    pub columns: u16,
+    pub rows: u16,
+}
+
+// A macroblock's place in the picture (document 01's X and Y).
+pub struct Position {
+    pub column: u16,
+    pub row: u16,
+}
+
+// What is touched of one picture buffer: end is one more than its highest touched byte, 0 where none is touched.
+pub struct Extent {
+    pub end: u64,
+}
+
+// A block that a vector points at: outside the picture, or inside and what it touches.
+pub enum Block {
+    Outside,
+    Inside(Extent),
+}

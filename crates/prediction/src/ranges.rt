@@ -1,0 +1,45 @@
+// The range of a vector's components under the picture's f codes.
+use crate::Vector;
+use crate::spans;
+ghost use mathlib.Core.Path.{_≡_};
+ghost use Prim.Native.Nat.{_-_, _<_};
+ghost use lib.IntN.{subℕ};
+ghost use Rattle.prediction.specs.Ranges.{inCode, inCodes};
+
+// The exponent of a code: one less, 0 for code 0.
+fn exponent(code: u8) -> u8
+    ensures { λ r. ⌜ r ≡ code - 1 ⌝ }
+{
+    if code == 0 {
+        return 0;
+    }
+    code - 1
+}
+
+// Whether the component b - 32768 lies in the range of a code.
+fn in_code(size: u8, code: u8, b: u32) -> bool
+    requires { ⌜ (0 < size) × (b < 65536) ⌝ }
+    ensures { λ r. ⌜ r ≡ inCode size code (subℕ b 32768) ⌝ }
+{
+    let power = exponent(code);
+    if 16 <= power {
+        return true;
+    }
+    let limit = (size as u32) << power;
+    if b + limit < 32768 {
+        return false;
+    }
+    b < 32768 + limit
+}
+
+// Whether both components of a vector lie in the ranges of their codes.
+pub fn in_codes(vector: Vector, x_code: u8, y_code: u8) -> bool
+    ensures { λ r. ⌜ r ≡ inCodes vector «x_code» «y_code» ⌝ }
+{
+    let x = vector.x;
+    let y = vector.y;
+    if !in_code(16, x_code, spans::biased(x)) {
+        return false;
+    }
+    in_code(16, y_code, spans::biased(y))
+}
