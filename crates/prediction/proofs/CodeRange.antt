@@ -9,7 +9,7 @@ use lib.Dec.{leb, ltb}
 use lib.Pow.{pow-mono, shl-lt}
 use lib.IntN.{ℤ, pos, negℤ, subℕ}
 use lib.Signed.{leZ, ltZ}
-use Rattle.prediction.specs.Ranges.{inCode}
+use Rattle.prediction.specs.Ranges.{inRange}
 use Rattle.prediction.proofs.Integers.{pos-sub, neg-is, le-sums, lt-sums}
 
 -- the test in ℕ, with l for the code's limit
@@ -22,20 +22,20 @@ in-limit b l =
     (ap (ltZ (subℕ b 32768)) (pos-sub l) ∙ lt-sums b 32768 l 0 ∙ ap₂ ltb right swap)
 
 module _ (size c b p : ℕ) (hs : 0 < size) (hb : b < 65536) (ep : p ≡ c - 1) where
-  pub code-test : inCode size c (subℕ b 32768) ≡ (leb 32768 (b + size * 2 ^ p) && ltb b (32768 + size * 2 ^ p))
+  pub code-test : inRange size c (subℕ b 32768) ≡ (leb 32768 (b + size * 2 ^ p) && ltb b (32768 + size * 2 ^ p))
   code-test = in-limit b (size * 2 ^ (c - 1)) ∙ ap (λ (n : ℕ). leb 32768 (b + size * 2 ^ n) && ltb b (32768 + size * 2 ^ n)) (sym ep)
 
   -- a code whose range holds every component
-  pub code-wide : 16 ≤ p → inCode size c (subℕ b 32768) ≡ true
+  pub code-wide : 16 ≤ p → inRange size c (subℕ b 32768) ≡ true
   code-wide h =
       let l : 1 * 65536 ≤ size * 2 ^ p = mul-le-mul hs (pow-mono {i = 16} {j = p} h) in
       code-test ∙ ap₂ _&&_ (le-leb 32768 (b + size * 2 ^ p) (omega arith)) (lt-ltb b (32768 + size * 2 ^ p) (omega arith))
 
   -- below the range, and not below it
-  pub code-below : (l : ℕ) → l ≡ size * 2 ^ p → b + l < 32768 → inCode size c (subℕ b 32768) ≡ false
+  pub code-below : (l : ℕ) → l ≡ size * 2 ^ p → b + l < 32768 → inRange size c (subℕ b 32768) ≡ false
   code-below l e h = code-test ∙ ap (λ (t : Bool). t && ltb b (32768 + size * 2 ^ p)) (lt-leb 32768 (b + size * 2 ^ p) (omega arith))
 
-  pub code-from : (l : ℕ) → l ≡ size * 2 ^ p → 32768 ≤ b + l → inCode size c (subℕ b 32768) ≡ ltb b (32768 + l)
+  pub code-from : (l : ℕ) → l ≡ size * 2 ^ p → 32768 ≤ b + l → inRange size c (subℕ b 32768) ≡ ltb b (32768 + l)
   code-from l e h =
       code-test
       ∙ ap (λ (t : Bool). t && ltb b (32768 + size * 2 ^ p)) (le-leb 32768 (b + size * 2 ^ p) (omega arith))

@@ -2,6 +2,7 @@
 use mathlib.Core.Path.{_≡_, _∙_}
 use mathlib.Core.Logic.{_⊎_, inl, inr}
 use Prim.Native.Nat.{ℕ, _+_, _≤_, _<_, max}
+use native.Mathlib.Nat.{le-antisymm}
 use native.Mathlib.Omega.{arith}
 use Rattle.prediction.specs.Extents.{emptyExtent, joined, Exact}
 use Rattle.prediction.specs.declared.Extent.{Extent}
@@ -30,3 +31,14 @@ exact-same {P} {Q} {e} f g p =
       below = λ byte h. p .below byte (g byte h);
       reached = λ h. let r = p .reached h in (r .0, f (r .0) (r .1), r .2);
     }
+
+-- One set of touched bytes has one exact extent.
+pub exact-once : {P : ℕ → Type 0} {e f : Extent} → Exact P e → Exact P f → e .end ≡ f .end
+exact-once {P} {e} {f} p q = le-antisymm (up p q) (up q p)
+  where
+    up : {a b : Extent} → Exact P a → Exact P b → a .end ≤ b .end
+    up {a} {b} h k = by (split (b .end) (a .end))
+      where
+        by : (b .end < a .end) ⊎ (a .end ≤ b .end) → a .end ≤ b .end
+        by (inl l) = let r = h .reached (omega arith) in omega (arith, k .below (r .0) (r .1), r .2)
+        by (inr l) = l

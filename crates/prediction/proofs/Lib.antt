@@ -6,3 +6,4 @@ pub mod ChromaInside
 pub mod AddressGrows
 pub mod ExtentLaws
 pub mod BlockLaws
+pub mod Worked

@@ -7,9 +7,9 @@ use Rattle.prediction.specs.declared.Vector.{Vector}
 
 -- Document 01: "With f code c a component lies from −16·2^(c−1) to 16·2^(c−1)−1." The size is the block's, 16 in a frame.
 -- Codes that a picture may hold are 1 to 9. Any other number is judged by the same formula, 0 as 1.
-abbrev pub inCode : ℕ → ℕ → ℤ → Bool
-inCode size c v = leZ (negℤ (pos (size * 2 ^ (c - 1)))) v && ltZ v (pos (size * 2 ^ (c - 1)))
+abbrev pub inRange : ℕ → ℕ → ℤ → Bool
+inRange size c v = leZ (negℤ (pos (size * 2 ^ (c - 1)))) v && ltZ v (pos (size * 2 ^ (c - 1)))
 
 -- A vector under the codes of its two components.
-unfoldable pub inCodes : Vector → ℕ → ℕ → Bool
-inCodes v cx cy = inCode 16 cx (v .x) && inCode 16 cy (v .y)
+unfoldable pub vectorInRange : Vector → ℕ → ℕ → Bool
+vectorInRange v cx cy = inRange 16 cx (v .x) && inRange 16 cy (v .y)

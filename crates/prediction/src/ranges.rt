@@ -4,7 +4,7 @@ use crate::spans;
 ghost use mathlib.Core.Path.{_≡_};
 ghost use Prim.Native.Nat.{_-_, _<_};
 ghost use lib.IntN.{subℕ};
-ghost use Rattle.prediction.specs.Ranges.{inCode, inCodes};
+ghost use Rattle.prediction.specs.Ranges.{inRange, vectorInRange};
 
 // The exponent of a code: one less, 0 for code 0.
 fn exponent(code: u8) -> u8
@@ -17,9 +17,9 @@ fn exponent(code: u8) -> u8
 }
 
 // Whether the component b - 32768 lies in the range of a code.
-fn in_code(size: u8, code: u8, b: u32) -> bool
+fn in_range(size: u8, code: u8, b: u32) -> bool
     requires { ⌜ (0 < size) × (b < 65536) ⌝ }
-    ensures { λ r. ⌜ r ≡ inCode size code (subℕ b 32768) ⌝ }
+    ensures { λ r. ⌜ r ≡ inRange size code (subℕ b 32768) ⌝ }
 {
     let power = exponent(code);
     if 16 <= power {
@@ -33,13 +33,13 @@ fn in_code(size: u8, code: u8, b: u32) -> bool
 }
 
 // Whether both components of a vector lie in the ranges of their codes.
-pub fn in_codes(vector: Vector, x_code: u8, y_code: u8) -> bool
-    ensures { λ r. ⌜ r ≡ inCodes vector «x_code» «y_code» ⌝ }
+pub fn vector_in_range(vector: Vector, x_code: u8, y_code: u8) -> bool
+    ensures { λ r. ⌜ r ≡ vectorInRange vector «x_code» «y_code» ⌝ }
 {
     let x = vector.x;
     let y = vector.y;
-    if !in_code(16, x_code, spans::biased(x)) {
+    if !in_range(16, x_code, spans::biased(x)) {
         return false;
     }
-    in_code(16, y_code, spans::biased(y))
+    in_range(16, y_code, spans::biased(y))
 }

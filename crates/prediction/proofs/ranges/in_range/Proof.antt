@@ -4,8 +4,8 @@ use native.Mathlib.Omega.{arith}
 use lib.Pow.{shl-exact}
 use Rattle.prediction.proofs.CodeRange.{code-wide, code-below, code-from, limit-lt}
 use borrow.Author.Needs.{needs}
-use Rattle.prediction.proofs.ranges.in_code.Statement.{statement}
-use Rattle.prediction.proofs.ranges.in_code.Tie as tie
+use Rattle.prediction.proofs.ranges.in_range.Statement.{statement}
+use Rattle.prediction.proofs.ranges.in_range.Tie as tie
 
 limit : (c : tie.Else1) → (c .before .before .args .size * 2 ^ (c .before .exponent .result)) % 2 ^ 32 ≡ c .before .before .args .size * 2 ^ (c .before .exponent .result)
 limit c = shl-exact 8 (c .before .exponent .result) 32 (c .before .before .fits .size .fits) (omega (arith, c .if1 .left))
@@ -40,8 +40,8 @@ returns-3 c =
     let s = c .before .before .before in
     sym (code-from (s .args .size) (s .args .code) (s .args .b) (c .before .before .exponent .result) (s .pre .0) (s .pre .1) (c .before .before .exponent .ensures) _ (limit (c .before)) (c .if2 .left))
 
-pub in-code-spec : {M : Type 1} → statement M
-in-code-spec =
+pub in-range-spec : {M : Type 1} → statement M
+in-range-spec =
     tie.close
     (tie.spec
     exponent-requires

@@ -1,0 +1,82 @@
+-- What document 01 works out by number, computed from the definitions.
+use mathlib.Core.Path.{_≡_, refl}
+use mathlib.Core.Bool.{Bool, true, false}
+use mathlib.Core.List.{List, [], _∷_, map}
+use Prim.Native.Nat.{ℕ}
+use lib.IntN.{ℤ, pos, negℤ}
+use Rattle.prediction.specs.Vectors.{signed16, vectorOf, wordOf}
+use Rattle.prediction.specs.Ranges.{inRange, vectorInRange}
+use Rattle.prediction.specs.Spans.{firstOf, countOf, halved}
+use Rattle.prediction.specs.Addresses.{address}
+use Rattle.prediction.specs.Extents.{joined}
+use Rattle.prediction.specs.Blocks.{blockAt}
+use Rattle.prediction.specs.declared.Vector.{Vector}
+use Rattle.prediction.specs.declared.Surface.{Surface}
+use Rattle.prediction.specs.declared.Grid.{Grid}
+use Rattle.prediction.specs.declared.Position.{Position}
+use Rattle.prediction.specs.declared.Block.{Block}
+use Rattle.prediction.specs.declared.Block.the-variants.{Outside, Inside}
+
+abbrev minus : ℕ → ℤ
+minus n = negℤ (pos n)
+
+abbrev vector : ℤ → ℤ → Vector
+vector x y = record { x = x; y = y }
+
+-- x in the low half, y in the high half, two's complement
+vectors : map vectorOf (0x00000001 ∷ 0x00010000 ∷ 0xffff0003 ∷ 0x7fff8000 ∷ [])
+    ≡ vector (pos 1) (pos 0) ∷ vector (pos 0) (pos 1) ∷ vector (pos 3) (minus 1) ∷ vector (minus 32768) (pos 32767) ∷ []
+unfolding vectorOf
+vectors = refl
+
+words : map wordOf (vector (pos 1) (pos 0) ∷ vector (pos 3) (minus 1) ∷ vector (minus 32768) (pos 32767) ∷ []) ≡ 0x00000001 ∷ 0xffff0003 ∷ 0x7fff8000 ∷ []
+unfolding wordOf
+words = refl
+
+-- "With f code c a component lies from −16·2^(c−1) to 16·2^(c−1)−1": both ends of codes 1 and 9. P13 is the first pair.
+code1 : map (inRange 16 1) (pos 15 ∷ pos 16 ∷ minus 16 ∷ minus 17 ∷ []) ≡ true ∷ false ∷ true ∷ false ∷ []
+code1 = refl
+
+code9 : map (inRange 16 9) (pos 4095 ∷ pos 4096 ∷ minus 4096 ∷ minus 4097 ∷ []) ≡ true ∷ false ∷ true ∷ false ∷ []
+code9 = refl
+
+-- each component has its own code
+codes : vectorInRange (vector (pos 31) (pos 15)) 2 1 ≡ true
+unfolding vectorInRange
+codes = refl
+
+-- "Chroma halves each component towards zero (−3 gives −1, −1 gives 0, 3 gives 1)"
+halves : map halved (minus 3 ∷ minus 1 ∷ pos 3 ∷ []) ≡ minus 1 ∷ pos 0 ∷ pos 1 ∷ []
+halves = refl
+
+-- so −3 starts the chroma block at 8X−1, with 9 columns; here X is 2
+chroma-first : firstOf 8 2 (halved (minus 3)) ≡ pos 15
+chroma-first = refl
+
+chroma-count : countOf 8 (halved (minus 3)) ≡ 9
+chroma-count = refl
+
+-- P8 to P12: W 2, H 1, pitch 128, C 16, the block at column 0
+abbrev answerTo : Vector → Block
+answerTo v = blockAt (record { pitch = 128; «chroma_row» = 16 }) (record { columns = 2; rows = 1 }) (record { column = 0; row = 0 }) v
+
+abbrev inside : ℕ → Block
+inside n = Inside (record { end = n })
+
+p8-to-p12 : map answerTo
+    (vector (pos 0) (pos 0)
+    ∷ vector (pos 1) (pos 0)
+    ∷ vector (pos 2) (pos 0)
+    ∷ vector (pos 32) (pos 0)
+    ∷ vector (pos 33) (pos 0)
+    ∷ vector (minus 1) (pos 0)
+    ∷ vector (pos 0) (pos 1)
+    ∷ [])
+    ≡ inside 2960 ∷ inside 2960 ∷ inside 2962 ∷ inside 2976 ∷ Outside ∷ Outside ∷ Outside ∷ []
+unfolding blockAt joined address
+p8-to-p12 = refl
+
+-- the last macroblock of the largest picture: (32767 + 1399)·131072 + 4095 + 1, past 2^32
+largest : blockAt (record { pitch = 131072; «chroma_row» = 32767 }) (record { columns = 256; rows = 175 }) (record { column = 255; row = 174 }) (vector (pos 0) (pos 0)) ≡ inside 4478210048
+unfolding blockAt joined address
+largest = refl
