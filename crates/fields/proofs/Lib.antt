@@ -1,3 +1,4 @@
 pub mod Masks
 pub mod Fields
 pub mod LittleEndian
+pub mod Worked

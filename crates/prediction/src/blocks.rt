@@ -6,7 +6,6 @@ use crate::Position;
 use crate::Surface;
 use crate::Vector;
 use crate::addresses::address;
-use crate::extents;
 use crate::spans;
 ghost use mathlib.Core.Path.{_≡_};
 ghost use Prim.Native.Nat.{_+_, _*_, _/_, _≤_, _<_};
@@ -31,7 +30,7 @@ fn block_extent(surface: Surface, position: Position, x: u32, y: u32) -> Extent
     let cr_column = 2 * spans::last_of(8, column, spans::halved(x)) + 1;
     let cr_row = surface.chroma_row as u32 + spans::last_of(8, row, spans::halved(y));
     let chroma = address(pitch, cr_column, cr_row) + 1;
-    extents::join(Extent { end: luma }, Extent { end: chroma })
+    Extent { end: luma }.join(Extent { end: chroma })
 }
 
 // The block that a vector displaces from a macroblock's position. The macroblock's own samples are the block of vector (0, 0).

@@ -1,11 +1,16 @@
 // Motion vectors, the samples they predict from, and the bytes those samples stand at. No other crate knows half samples,
 // chroma halving or byte addresses.
 mod addresses;
-pub mod blocks;
-pub mod extents;
-pub mod ranges;
+mod blocks;
+mod extents;
+mod ranges;
 mod spans;
-pub mod vectors;
+mod vectors;
+
+pub use blocks::block_at;
+pub use ranges::vector_in_range;
+pub use vectors::vector_of;
+pub use vectors::word_of;
 
 // A motion vector in half samples, x to the right and y down.
 pub struct Vector {

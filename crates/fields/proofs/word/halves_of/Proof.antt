@@ -4,8 +4,8 @@ use native.Mathlib.Omega.{arith}
 use Rattle.fields.specs.Word.{bits}
 use Rattle.fields.proofs.Fields.{halves}
 use borrow.Author.Needs.{needs}
-use Rattle.fields.proofs.halves_of.Statement.{statement}
-use Rattle.fields.proofs.halves_of.Tie as tie
+use Rattle.fields.proofs.word.halves_of.Statement.{statement}
+use Rattle.fields.proofs.word.halves_of.Tie as tie
 
 cast-t3 : tie.Need-cast-t3
 cast-t3 c = search needs

@@ -3,8 +3,8 @@ use Prim.Native.Nat.{ℕ, max}
 use native.Mathlib.Omega.{arith}
 use Rattle.prediction.specs.Extents.{joined}
 use Rattle.prediction.specs.declared.Extent.{Extent}
-use Rattle.prediction.proofs.extents.join.Statement.{statement}
-use Rattle.prediction.proofs.extents.join.Tie as tie
+use Rattle.prediction.proofs.Extent.join.Statement.{statement}
+use Rattle.prediction.proofs.Extent.join.Tie as tie
 
 abbrev upTo : ℕ → Extent
 upTo n = record { end = n }
@@ -13,14 +13,14 @@ returns : tie.Need-returns
 unfolding joined
 returns c =
     let s = c .before .before .before .args in
-    let e : s .b .end ≡ max (s .a .end) (s .b .end) = omega arith in
+    let e : s .other .end ≡ max (s .self .end) (s .other .end) = omega arith in
     ap upTo e
 
 returns-2 : tie.Need-returns-2
 unfolding joined
 returns-2 c =
     let s = c .before .before .before .args in
-    let e : s .a .end ≡ max (s .a .end) (s .b .end) = omega arith in
+    let e : s .self .end ≡ max (s .self .end) (s .other .end) = omega arith in
     ap upTo e
 
 pub join-spec : {M : Type 1} → statement M

@@ -5,8 +5,8 @@ use lib.Bits.{bitAnd, and-mask}
 use Rattle.fields.specs.Word.{width}
 use Rattle.fields.proofs.Fields.{no-bits}
 use borrow.Author.Needs.{needs}
-use Rattle.fields.proofs.bits.Statement.{statement}
-use Rattle.fields.proofs.bits.Tie as tie
+use Rattle.fields.proofs.word.bits.Statement.{statement}
+use Rattle.fields.proofs.word.bits.Tie as tie
 
 width-of-requires : tie.Need-width-of-requires
 width-of-requires c κs = search needs

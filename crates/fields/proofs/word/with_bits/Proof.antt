@@ -4,8 +4,8 @@ use native.Mathlib.Omega.{arith}
 use Rattle.fields.proofs.Fields.{same-word}
 use Rattle.fields.proofs.Masks.{three, packed, packed-top}
 use borrow.Author.Needs.{needs}
-use Rattle.fields.proofs.with_bits.Statement.{statement}
-use Rattle.fields.proofs.with_bits.Tie as tie
+use Rattle.fields.proofs.word.with_bits.Statement.{statement}
+use Rattle.fields.proofs.word.with_bits.Tie as tie
 
 width-of-requires : tie.Need-width-of-requires
 width-of-requires c κs = search needs

@@ -1,7 +1,7 @@
 use mathlib.Core.Path.{refl}
 use Rattle.prediction.specs.Extents.{emptyExtent}
-use Rattle.prediction.proofs.extents.empty.Statement.{statement}
-use Rattle.prediction.proofs.extents.empty.Tie as tie
+use Rattle.prediction.proofs.Extent.empty.Statement.{statement}
+use Rattle.prediction.proofs.Extent.empty.Tie as tie
 
 returns : tie.Need-returns
 unfolding emptyExtent

@@ -4,8 +4,8 @@ use native.Mathlib.Omega.{arith}
 use lib.Pow.{pow-pos}
 use Rattle.fields.proofs.Masks.{one-shl}
 use borrow.Author.Needs.{needs}
-use Rattle.fields.proofs.ones.Statement.{statement}
-use Rattle.fields.proofs.ones.Tie as tie
+use Rattle.fields.proofs.word.ones.Statement.{statement}
+use Rattle.fields.proofs.word.ones.Tie as tie
 
 returns : tie.Need-returns
 returns c =

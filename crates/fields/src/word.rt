@@ -1,0 +1,79 @@
+// Bits of a 32-bit word.
+use crate::Halves;
+ghost use mathlib.Core.Path.{_≡_};
+ghost use Prim.Native.Nat.{_-_, _^_, _≤_};
+ghost use Rattle.fields.specs.Word.{width, bits, withBits, halvesOf, wordOfHalves};
+
+// How many bits hi:lo names.
+fn width_of(hi: u8, lo: u8) -> u8
+    ensures { λ r. ⌜ r ≡ width hi lo ⌝ }
+{
+    if hi < lo {
+        return 0;
+    }
+    if 32 <= lo {
+        return 0;
+    }
+    if 32 <= hi {
+        return 32 - lo;
+    }
+    hi - lo + 1
+}
+
+// A mask of the n lowest bits, of which a word has 32.
+fn ones(n: u8) -> u32
+    requires { ⌜ n ≤ 32 ⌝ }
+    ensures { λ r. ⌜ r ≡ 2 ^ n - 1 ⌝ }
+{
+    if 32 <= n {
+        return 0xffff_ffff;
+    }
+    (1 << n) - 1
+}
+
+// Bits hi:lo of a word.
+pub fn bits(word: u32, hi: u8, lo: u8) -> u32
+    ensures { λ r. ⌜ r ≡ bits word hi lo ⌝ }
+{
+    let n = width_of(hi, lo);
+    if 32 <= lo {
+        return 0;
+    }
+    (word >> lo) & ones(n)
+}
+
+// The word with the lowest bits of value in hi:lo, and its other bits as they were.
+pub fn with_bits(word: u32, hi: u8, lo: u8, value: u32) -> u32
+    ensures { λ r. ⌜ r ≡ withBits word hi lo value ⌝ }
+{
+    let n = width_of(hi, lo);
+    if 32 <= lo {
+        return word;
+    }
+    let end = n + lo;
+    let below = word & ones(lo);
+    let field = value & ones(n);
+    if 32 <= end {
+        return below | (field << lo);
+    }
+    below | (field << lo) | ((word >> end) << end)
+}
+
+// The halves of a word, by division.
+pub fn halves_of(word: u32) -> Halves
+    ensures { λ r. ⌜ r ≡ halvesOf word ⌝ }
+{
+    Halves {
+        low: (word % 65536) as u16,
+        high: (word / 65536) as u16,
+    }
+}
+
+// The word of two halves.
+pub fn word_of_halves(halves: Halves) -> u32
+    ensures { λ r. ⌜ r ≡ wordOfHalves halves ⌝ }
+{
+    let low = halves.low as u32;
+    let high = halves.high as u32;
+    with_bits(low, 31, 16, high)
+}

@@ -1,0 +1,81 @@
+// Runs the stored cases of the leaf crates and prints a line for each. A case is 24 bytes of standard input, little-endian:
+//   0 sort (0 fields of a word, else a block)
+//   fields: 2 hi, 3 lo, 4 word (4 bytes), 16 value (4)
+//   block: 2 first chroma row (2), 4 pitch (4), 8 W, 10 H, 12 X, 14 Y (2 each), 16 vector word (4), 20 and 21 f codes of x and y
+// rust/reference writes the cases and the lines that are due.
+use libc::STDIN_FILENO;
+use libc::STDOUT_FILENO;
+use prediction::Block;
+use prediction::Grid;
+use prediction::Position;
+use prediction::Surface;
+
+fn fields_case(case: &[u8; 24]) {
+    let hi = case[2];
+    let lo = case[3];
+    let word = fields::number32(case[4], case[5], case[6], case[7]);
+    let value = fields::number32(case[16], case[17], case[18], case[19]);
+    io::print_hex(STDOUT_FILENO, fields::bits(word, hi, lo) as u64, 8);
+    io::write_all(STDOUT_FILENO, b" ");
+    io::print_hex(
+        STDOUT_FILENO,
+        fields::with_bits(word, hi, lo, value) as u64,
+        8,
+    );
+    io::write_all(STDOUT_FILENO, b"\n");
+}
+
+fn print_block(block: Block) {
+    match block {
+        Block::Outside => {
+            io::write_all(STDOUT_FILENO, b"outside\n");
+        }
+        Block::Inside(extent) => {
+            io::write_all(STDOUT_FILENO, b"inside ");
+            io::print_decimal(STDOUT_FILENO, extent.end);
+            io::write_all(STDOUT_FILENO, b"\n");
+        }
+    }
+}
+
+fn block_case(case: &[u8; 24]) {
+    let chroma_row = fields::number16(case[2], case[3]);
+    let pitch = fields::number32(case[4], case[5], case[6], case[7]);
+    let columns = fields::number16(case[8], case[9]);
+    let rows = fields::number16(case[10], case[11]);
+    let column = fields::number16(case[12], case[13]);
+    let row = fields::number16(case[14], case[15]);
+    let vector = prediction::vector_of(fields::number32(case[16], case[17], case[18], case[19]));
+    io::print_hex(STDOUT_FILENO, prediction::word_of(vector) as u64, 8);
+    if prediction::vector_in_range(vector, case[20], case[21]) {
+        io::write_all(STDOUT_FILENO, b" range ");
+    } else {
+        io::write_all(STDOUT_FILENO, b" beyond ");
+    }
+    let surface = Surface { pitch, chroma_row };
+    let grid = Grid { columns, rows };
+    let position = Position { column, row };
+    print_block(prediction::block_at(surface, grid, position, vector));
+}
+
+// Runs the next case and answers whether there was one.
+fn next_case() -> bool {
+    let mut case = [0u8; 24];
+    let got = io::read_full(STDIN_FILENO, &mut case);
+    if got < 24 {
+        return false;
+    }
+    if case[0] == 0 {
+        fields_case(&case);
+    } else {
+        block_case(&case);
+    }
+    true
+}
+
+fn main() {
+    let mut left: u32 = 100000;
+    while left > 0 && next_case() {
+        left -= 1;
+    }
+}

@@ -1,0 +1,220 @@
+//! Cases for the two leaf crates: fields of a word, and blocks in a picture buffer.
+
+use crate::random::Random;
+use std::fmt::Write as _;
+use std::path::Path;
+
+/// Bits hi:lo of a word, one by one. A word has no bit above 31.
+fn bits(word: u32, hi: u8, lo: u8) -> u32 {
+    let mut value = 0;
+    for bit in (lo..=hi).filter(|bit| *bit < 32).rev() {
+        value = 2 * value + (word >> bit) % 2;
+    }
+    value
+}
+
+/// The word with the lowest bits of value in hi:lo, one by one.
+fn with_bits(word: u32, hi: u8, lo: u8, value: u32) -> u32 {
+    let mut out = 0;
+    for bit in (0..32).rev() {
+        let from = if lo <= bit && bit <= hi { value >> (bit - lo) } else { word >> bit };
+        out = 2 * out + from % 2;
+    }
+    out
+}
+
+struct Block {
+    pitch: u32,
+    chroma_row: u16,
+    columns: u16,
+    rows: u16,
+    column: u16,
+    row: u16,
+    x_code: u8,
+    y_code: u8,
+    word: u32,
+}
+
+impl Block {
+    /// x in the low half, y in the high half, two's complement.
+    fn vector(&self) -> (i64, i64) {
+        let signed = |half: u32| if half < 0x8000 { half as i64 } else { half as i64 - 0x1_0000 };
+        (signed(self.word % 0x1_0000), signed(self.word / 0x1_0000))
+    }
+
+    /// "With f code c a component lies from −16·2^(c−1) to 16·2^(c−1)−1."
+    fn in_range(&self) -> bool {
+        let holds = |code: u8, v: i64| {
+            let limit = (1..code).fold(16i64, |l, _| l * 2);
+            (-limit..=limit - 1).contains(&v)
+        };
+        let (x, y) = self.vector();
+        holds(self.x_code, x) && holds(self.y_code, y)
+    }
+
+    /// One more than the highest byte that a sample of the block stands at, or none where the luma block is not inside.
+    fn end(&self) -> Option<u64> {
+        let (vx, vy) = self.vector();
+        let samples = |size: i64, place: u16, v: i64| {
+            let first = size * place as i64 + v.div_euclid(2);
+            let count = if v % 2 == 0 { size } else { size + 1 };
+            first..first + count
+        };
+        let (luma_columns, luma_rows) = (samples(16, self.column, vx), samples(16, self.row, vy));
+        let picture = |n: u16| 0..16 * n as i64;
+        if !luma_columns.clone().all(|x| picture(self.columns).contains(&x)) || !luma_rows.clone().all(|y| picture(self.rows).contains(&y)) {
+            return None;
+        }
+        let mut end = 0;
+        for y in luma_rows {
+            for x in luma_columns.clone() {
+                end = end.max(y * self.pitch as i64 + x + 1);
+            }
+        }
+        // Rust's division rounds towards zero.
+        for y in samples(8, self.row, vy / 2) {
+            for x in samples(8, self.column, vx / 2) {
+                let cb = (self.chroma_row as i64 + y) * self.pitch as i64 + 2 * x;
+                let cr = cb + 1;
+                end = end.max(cb + 1).max(cr + 1);
+            }
+        }
+        Some(end as u64)
+    }
+
+    fn line(&self) -> String {
+        let range = if self.in_range() { "range" } else { "beyond" };
+        match self.end() {
+            Some(end) => format!("{:08x} {range} inside {end}", self.word),
+            None => format!("{:08x} {range} outside", self.word),
+        }
+    }
+
+    fn bytes(&self) -> [u8; 24] {
+        let mut b = [0; 24];
+        b[0] = 1;
+        b[2..4].copy_from_slice(&self.chroma_row.to_le_bytes());
+        b[4..8].copy_from_slice(&self.pitch.to_le_bytes());
+        b[8..10].copy_from_slice(&self.columns.to_le_bytes());
+        b[10..12].copy_from_slice(&self.rows.to_le_bytes());
+        b[12..14].copy_from_slice(&self.column.to_le_bytes());
+        b[14..16].copy_from_slice(&self.row.to_le_bytes());
+        b[16..20].copy_from_slice(&self.word.to_le_bytes());
+        b[20] = self.x_code;
+        b[21] = self.y_code;
+        b
+    }
+}
+
+fn word_of(x: i64, y: i64) -> u32 {
+    (x.rem_euclid(0x1_0000) + 0x1_0000 * y.rem_euclid(0x1_0000)) as u32
+}
+
+fn block(size: (u32, u16, u16, u16), at: (u16, u16), codes: (u8, u8), v: (i64, i64)) -> Block {
+    let (pitch, chroma_row, columns, rows) = size;
+    Block { pitch, chroma_row, columns, rows, column: at.0, row: at.1, x_code: codes.0, y_code: codes.1, word: word_of(v.0, v.1) }
+}
+
+/// Vectors at and just past the ends of what fits: in the picture, in the codes, in sixteen bits.
+fn edges(place: u16, n: u16, code: u8) -> Vec<i64> {
+    let left = -32 * place as i64;
+    let right = 32 * (n as i64 - 1 - place as i64);
+    let limit = (1..code).fold(16i64, |l, _| l * 2);
+    let mut v: Vec<i64> = Vec::new();
+    for end in [left, right, -limit, limit - 1, 0] {
+        v.extend((end - 4..=end + 4).filter(|x| (-32768..=32767).contains(x)));
+    }
+    v.extend([-32768, -32767, 32766, 32767]);
+    v
+}
+
+fn blocks() -> Vec<Block> {
+    let small = (128, 16, 2, 1);
+    let mut all = Vec::new();
+    // P8 to P12, then P13
+    for v in [(0, 0), (1, 0), (2, 0), (32, 0), (33, 0), (-1, 0), (0, 1)] {
+        all.push(block(small, (0, 0), (3, 3), v));
+    }
+    for v in [(15, 0), (16, 0)] {
+        all.push(block(small, (0, 0), (1, 1), v));
+    }
+    // small pictures, each place, both directions at their edges
+    for (columns, rows) in [(1, 1), (3, 2)] {
+        for column in 0..columns {
+            for row in 0..rows {
+                for x in edges(column, columns, 2) {
+                    all.push(block((128, 16 * rows + 5, columns, rows), (column, row), (2, 1), (x, 0)));
+                }
+                for y in edges(row, rows, 2) {
+                    all.push(block((256, 16 * rows, columns, rows), (column, row), (1, 2), (0, y)));
+                }
+            }
+        }
+    }
+    // 1920 by 1080 has 68 macroblock rows, 1088 sample rows; and the largest picture there is
+    for size in [(2048, 1088, 120, 68), (131072, 32767, 256, 175)] {
+        for at in [(0, 0), (size.2 - 1, size.3 - 1), (size.2 / 2, size.3 / 2)] {
+            for x in edges(at.0, size.2, 9) {
+                all.push(block(size, at, (9, 9), (x, 0)));
+            }
+            for y in edges(at.1, size.3, 9) {
+                all.push(block(size, at, (9, 9), (-3, y)));
+            }
+        }
+    }
+    let mut r = Random::new(1);
+    for _ in 0..1200 {
+        let (columns, rows) = (r.within(1, 256) as u16, r.within(1, 175) as u16);
+        let at = (r.within(0, columns as i64 - 1) as u16, r.within(0, rows as i64 - 1) as u16);
+        let size = (128 * r.within(1, 1024) as u32, r.within(0, 32767) as u16, columns, rows);
+        let reach = |r: &mut Random, place: u16, n: u16| r.within(-32 * place as i64 - 20, 32 * (n as i64 - place as i64) + 20);
+        let v = (reach(&mut r, at.0, columns), reach(&mut r, at.1, rows));
+        all.push(block(size, at, (r.within(1, 9) as u8, r.within(1, 9) as u8), v));
+    }
+    // places and sizes that no batch has
+    for _ in 0..100 {
+        let size = (r.next() as u32 | 16, r.next() as u16, r.next() as u16, r.next() as u16);
+        let at = (r.next() as u16, r.next() as u16);
+        all.push(block(size, at, (r.within(1, 9) as u8, r.within(1, 9) as u8), (r.within(-32768, 32767), r.within(-32768, 32767))));
+    }
+    all
+}
+
+/// Fields of a word: every position and width on two words, then others.
+fn fields() -> Vec<(u32, u8, u8, u32)> {
+    let mut all = Vec::new();
+    for hi in 0..34 {
+        for lo in 0..34 {
+            all.push((0x8123_c5f6, hi, lo, 0xffff_ffff));
+        }
+    }
+    let mut r = Random::new(2);
+    for _ in 0..400 {
+        all.push((r.next() as u32, r.within(0, 40) as u8, r.within(0, 40) as u8, r.next() as u32));
+    }
+    for (hi, lo) in [(255, 0), (255, 255), (0, 255), (31, 0), (32, 31)] {
+        all.push((0xdead_beef, hi, lo, 0x0123_4567));
+    }
+    all
+}
+
+pub fn write(dir: &Path) -> std::io::Result<()> {
+    let mut cases = Vec::new();
+    let mut lines = String::new();
+    for b in blocks() {
+        cases.extend(b.bytes());
+        writeln!(lines, "{}", b.line()).unwrap();
+    }
+    for (word, hi, lo, value) in fields() {
+        let mut b = [0; 24];
+        b[2] = hi;
+        b[3] = lo;
+        b[4..8].copy_from_slice(&word.to_le_bytes());
+        b[16..20].copy_from_slice(&value.to_le_bytes());
+        cases.extend(b);
+        writeln!(lines, "{:08x} {:08x}", bits(word, hi, lo), with_bits(word, hi, lo, value)).unwrap();
+    }
+    std::fs::create_dir_all(dir)?;
+    std::fs::write(dir.join("stdin"), cases)?;
+    std::fs::write(dir.join("stdout"), lines)
+}

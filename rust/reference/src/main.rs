@@ -1,0 +1,28 @@
+//! A second reading of document 01, kept apart from the proved crates: it shares no code and no table with them. It writes
+//! stored cases with the answers that document 01 asks for, by the plainest means: bit by bit, sample by sample.
+//!
+//!     reference leaf DIR      writes DIR/stdin and DIR/stdout, the cases of crates/leaf_cases
+
+mod leaf;
+mod random;
+
+use std::path::Path;
+use std::process::ExitCode;
+
+fn main() -> ExitCode {
+    let words: Vec<String> = std::env::args().skip(1).collect();
+    let done = match words.iter().map(String::as_str).collect::<Vec<_>>()[..] {
+        ["leaf", dir] => leaf::write(Path::new(dir)),
+        _ => {
+            eprintln!("usage: reference leaf DIR");
+            return ExitCode::from(2);
+        }
+    };
+    match done {
+        Ok(()) => ExitCode::SUCCESS,
+        Err(e) => {
+            eprintln!("reference: {e}");
+            ExitCode::FAILURE
+        }
+    }
+}
