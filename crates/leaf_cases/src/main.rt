@@ -1,8 +1,10 @@
 // Runs the stored cases of the leaf crates and prints a line for each. A case is 24 bytes of standard input, little-endian:
 //   0 sort (0 fields of a word, else a block)
 //   fields: 2 hi, 3 lo, 4 word (4 bytes), 16 value (4)
-//   block: 2 first chroma row (2), 4 pitch (4), 8 W, 10 H, 12 X, 14 Y (2 each), 16 vector word (4), 20 and 21 f codes of x and y
-// rust/reference writes the cases and the lines that are due.
+//   block: 2 first chroma row (2), 4 pitch (4), 8 W, 10 H, 12 X, 14 Y (2 each), 16 vector word (4), 20 and 21 f codes of x and y,
+//     22 the number of document 01's case, or 0
+// A block's line has its vector's word, `beyond` where the vector is beyond its f codes (rule 9), else `range`, and `outside`
+// where the block is not in the picture (rule 10), else its end. rust/reference writes the cases and the lines that are due.
 use libc::STDIN_FILENO;
 use libc::STDOUT_FILENO;
 use prediction::Block;
@@ -45,6 +47,12 @@ fn block_case(case: &[u8; 24]) {
     let rows = fields::number16(case[10], case[11]);
     let column = fields::number16(case[12], case[13]);
     let row = fields::number16(case[14], case[15]);
+    let label = case[22];
+    if label != 0 {
+        io::write_all(STDOUT_FILENO, b"P");
+        io::print_decimal(STDOUT_FILENO, label as u64);
+        io::write_all(STDOUT_FILENO, b" ");
+    }
     let vector = prediction::vector_of(fields::number32(case[16], case[17], case[18], case[19]));
     io::print_hex(STDOUT_FILENO, prediction::word_of(vector) as u64, 8);
     if prediction::vector_in_range(vector, case[20], case[21]) {

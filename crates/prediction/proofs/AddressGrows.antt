@@ -7,7 +7,7 @@ use Rattle.prediction.specs.Addresses.{address}
 
 pub address-column : (pitch row a b : ℕ) → 16 ≤ pitch → a ≤ b → address pitch a row ≤ address pitch b row
 unfolding address
-address-column pitch row a b wide h = omega arith
+address-column pitch row a b wide h = omega (arith, mul-le-mul-right pitch h)
 
 pub address-row : (pitch column a b : ℕ) → 16 ≤ pitch → a ≤ b → address pitch column a ≤ address pitch column b
 unfolding address

@@ -1,6 +1,6 @@
 -- Two's complement at sixteen bits: the machine's reading of the bits is the definition's, and the two definitions undo
 -- each other; so a vector's word and a word's vector do.
-use mathlib.Core.Path.{_≡_, refl, sym, ap, ap₂, _∙_}
+use mathlib.Core.Path.{_≡_, refl, sym, ap, ap₂, subst, _∙_}
 use mathlib.Core.Bool.{Bool, true, false, cond}
 use mathlib.Core.Logic.{_⊎_, inl, inr}
 use Prim.Native.Nat.{ℕ, suc, _-_, _^_, _<_, _≤_}
@@ -11,7 +11,7 @@ use lib.IntN.{ℤ, pos, negsuc}
 use lib.Signed.{mag, ltZ}
 use mir.Syntax.{w16}
 use mir.Val.{sel, toZ, ofZ, SFits}
-use mir.Facts.{toZ-ofZ, ofZ-toZ}
+use mir.Facts.{toZ-ofZ, ofZ-toZ, sfits-toZ}
 use Rattle.fields.specs.Word.{halvesOf, wordOfHalves}
 use Rattle.fields.specs.declared.Halves.{Halves}
 use Rattle.fields.proofs.Fields.{halves, halves-back, word-back}
@@ -56,6 +56,14 @@ not-negative (negsuc n) h = let z : _≡_ {A = ℕ} 0 1 = cc in absurd (omega ar
 pub read-back : (z : ℤ) → mag z < 32768 → toZ w16 (ofZ w16 z) ≡ z
 read-back z h = toZ-ofZ {w = w16} (sfits-of h)
 
+-- what sixteen bits stand for fits sixteen bits
+pub signed-fits : (n : ℕ) → n < 65536 → SFits w16 (signed16 n)
+signed-fits n h = subst (SFits w16) (toZ-signed n h) (sfits-toZ {w = w16} (record { fits = h }))
+
+pub vector-fits : (w : ℕ) → SFits w16 (vectorOf w .x) × SFits w16 (vectorOf w .y)
+unfolding vectorOf
+vector-fits w = (signed-fits (halvesOf w .low) (omega arith), signed-fits (halvesOf w .high) (omega arith))
+
 abbrev pub pair : ℤ → ℤ → Vector
 pair x y = record { x = x; y = y }
 
@@ -66,9 +74,9 @@ vector-back v fx fy =
     let h = halves-back (halves (bits16 (v .x)) (bits16 (v .y))) (bits-lt (v .x) fx) (bits-lt (v .y) fy) in
     ap (λ (g : Halves). pair (signed16 (g .low)) (signed16 (g .high))) h ∙ ap₂ pair (signed-bits (v .x) fx) (signed-bits (v .y) fy)
 
-pub word-back-of : (w : ℕ) → w < 2 ^ 32 → wordOf (vectorOf w) ≡ w
+pub vector-word-back : (w : ℕ) → w < 2 ^ 32 → wordOf (vectorOf w) ≡ w
 unfolding vectorOf wordOf
-word-back-of w h =
+vector-word-back w h =
     let low = bits-signed (halvesOf w .low) (omega arith) in
     let high = bits-signed (halvesOf w .high) (omega arith) in
     ap wordOfHalves (ap₂ halves low high) ∙ word-back w h

@@ -21,12 +21,9 @@ fn block_extent(surface: Surface, position: Position, x: u32, y: u32) -> Extent
     let pitch = surface.pitch;
     let column = position.column;
     let row = position.row;
-    let luma = address(
-        pitch,
-        spans::last_of(16, column, x),
-        spans::last_of(16, row, y),
-    )
-        + 1;
+    let luma_column = spans::last_of(16, column, x);
+    let luma_row = spans::last_of(16, row, y);
+    let luma = address(pitch, luma_column, luma_row) + 1;
     let cr_column = 2 * spans::last_of(8, column, spans::halved(x)) + 1;
     let cr_row = surface.chroma_row as u32 + spans::last_of(8, row, spans::halved(y));
     let chroma = address(pitch, cr_column, cr_row) + 1;

@@ -33,6 +33,8 @@ struct Block {
     x_code: u8,
     y_code: u8,
     word: u32,
+    /// The number of document 01's case, or 0.
+    case: u8,
 }
 
 impl Block {
@@ -62,7 +64,9 @@ impl Block {
         };
         let (luma_columns, luma_rows) = (samples(16, self.column, vx), samples(16, self.row, vy));
         let picture = |n: u16| 0..16 * n as i64;
-        if !luma_columns.clone().all(|x| picture(self.columns).contains(&x)) || !luma_rows.clone().all(|y| picture(self.rows).contains(&y)) {
+        if !luma_columns.clone().all(|x| picture(self.columns).contains(&x))
+            || !luma_rows.clone().all(|y| picture(self.rows).contains(&y))
+        {
             return None;
         }
         let mut end = 0;
@@ -83,10 +87,11 @@ impl Block {
     }
 
     fn line(&self) -> String {
+        let label = if self.case == 0 { String::new() } else { format!("P{} ", self.case) };
         let range = if self.in_range() { "range" } else { "beyond" };
         match self.end() {
-            Some(end) => format!("{:08x} {range} inside {end}", self.word),
-            None => format!("{:08x} {range} outside", self.word),
+            Some(end) => format!("{label}{:08x} {range} inside {end}", self.word),
+            None => format!("{label}{:08x} {range} outside", self.word),
         }
     }
 
@@ -102,6 +107,7 @@ impl Block {
         b[16..20].copy_from_slice(&self.word.to_le_bytes());
         b[20] = self.x_code;
         b[21] = self.y_code;
+        b[22] = self.case;
         b
     }
 }
@@ -112,7 +118,18 @@ fn word_of(x: i64, y: i64) -> u32 {
 
 fn block(size: (u32, u16, u16, u16), at: (u16, u16), codes: (u8, u8), v: (i64, i64)) -> Block {
     let (pitch, chroma_row, columns, rows) = size;
-    Block { pitch, chroma_row, columns, rows, column: at.0, row: at.1, x_code: codes.0, y_code: codes.1, word: word_of(v.0, v.1) }
+    Block {
+        pitch,
+        chroma_row,
+        columns,
+        rows,
+        column: at.0,
+        row: at.1,
+        x_code: codes.0,
+        y_code: codes.1,
+        word: word_of(v.0, v.1),
+        case: 0,
+    }
 }
 
 /// Vectors at and just past the ends of what fits: in the picture, in the codes, in sixteen bits.
@@ -131,12 +148,19 @@ fn edges(place: u16, n: u16, code: u8) -> Vec<i64> {
 fn blocks() -> Vec<Block> {
     let small = (128, 16, 2, 1);
     let mut all = Vec::new();
-    // P8 to P12, then P13
-    for v in [(0, 0), (1, 0), (2, 0), (32, 0), (33, 0), (-1, 0), (0, 1)] {
-        all.push(block(small, (0, 0), (3, 3), v));
-    }
-    for v in [(15, 0), (16, 0)] {
-        all.push(block(small, (0, 0), (1, 1), v));
+    let document = [
+        (8, 3, 0, 0),
+        (9, 3, 1, 0),
+        (10, 3, 2, 0),
+        (11, 3, 32, 0),
+        (12, 3, 33, 0),
+        (12, 3, -1, 0),
+        (12, 3, 0, 1),
+        (13, 1, 15, 0),
+        (13, 1, 16, 0),
+    ];
+    for (case, code, x, y) in document {
+        all.push(Block { case, ..block(small, (0, 0), (code, code), (x, y)) });
     }
     // small pictures, each place, both directions at their edges
     for (columns, rows) in [(1, 1), (3, 2)] {
@@ -175,7 +199,12 @@ fn blocks() -> Vec<Block> {
     for _ in 0..100 {
         let size = (r.next() as u32 | 16, r.next() as u16, r.next() as u16, r.next() as u16);
         let at = (r.next() as u16, r.next() as u16);
-        all.push(block(size, at, (r.within(1, 9) as u8, r.within(1, 9) as u8), (r.within(-32768, 32767), r.within(-32768, 32767))));
+        all.push(block(
+            size,
+            at,
+            (r.within(1, 9) as u8, r.within(1, 9) as u8),
+            (r.within(-32768, 32767), r.within(-32768, 32767)),
+        ));
     }
     all
 }
@@ -217,4 +246,27 @@ pub fn write(dir: &Path) -> std::io::Result<()> {
     std::fs::create_dir_all(dir)?;
     std::fs::write(dir.join("stdin"), cases)?;
     std::fs::write(dir.join("stdout"), lines)
+}
+
+#[cfg(test)]
+mod tests {
+    /// Document 01's cases P8 to P13, as far as buffer 2 and the vector go.
+    #[test]
+    fn document_01() {
+        let lines: Vec<String> = super::blocks().iter().take(9).map(|b| b.line()).collect();
+        let due = [
+            "P8 00000000 range inside 2960",
+            "P9 00000001 range inside 2960",
+            "P10 00000002 range inside 2962",
+            "P11 00000020 range inside 2976",
+            "P12 00000021 range outside",
+            "P12 0000ffff range outside",
+            "P12 00010000 range outside",
+            "P13 0000000f range inside",
+            "P13 00000010 beyond inside",
+        ];
+        for (line, due) in lines.iter().zip(due) {
+            assert!(line.starts_with(due), "{line}: {due}");
+        }
+    }
 }

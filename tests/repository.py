@@ -1,0 +1,130 @@
+#!/usr/bin/env python3
+"""Checks what rt ci does not: run after it, from the repository's root, on what it left in target/.
+
+- Every public function of a library has an ensures and no requires, and two must-fail edits name it.
+- Every must-fail edit says what it guards and why, and was refused at a fact: not because the proof no longer fits the
+  code. Where it names the law that refuses it, that law is among what failed.
+- Every name that docs/CLAIMS.md cites stands in the file that it cites.
+- Nothing names a path of one machine.
+"""
+import pathlib
+import re
+import subprocess
+import sys
+
+root = pathlib.Path(__file__).resolve().parent.parent
+faults = []
+
+
+def libraries():
+    return sorted(p.parent.parent for p in root.glob('crates/*/src/lib.rt'))
+
+
+def public_functions(crate):
+    """Yields (name, contract) of each function that other crates can call; a method's name has its type before it."""
+    for file in sorted(crate.glob('src/**/*.rt')):
+        owner = None
+        lines = file.read_text().split('\n')
+        for i, line in enumerate(lines):
+            if m := re.match(r'impl (\w+)', line):
+                owner = m[1]
+            elif line.startswith('}'):
+                owner = None
+            if m := re.match(r'( *)pub (?:extern "C" )?fn (\w+)', line):
+                contract = []
+                while not lines[i].strip().startswith('{') and not lines[i].rstrip().endswith('{'):
+                    contract.append(lines[i])
+                    i += 1
+                yield (f'{owner}::{m[2]}' if m[1] and owner else m[2]), '\n'.join(contract)
+
+
+def edits(crate):
+    for file in sorted(crate.glob('must-fail/*.edit')):
+        fields = dict(re.findall(r'^(guards|why|law): (.+)$', file.read_text(), re.M))
+        yield file, fields
+
+
+def check_contracts():
+    count = 0
+    for crate in libraries():
+        guarded = [fields.get('guards') for _, fields in edits(crate)]
+        names = []
+        for name, contract in public_functions(crate):
+            names.append(name)
+            count += 1
+            if 'requires' in contract:
+                faults.append(f'{crate.name}: pub fn {name} has a requires')
+            if 'ensures' not in contract:
+                faults.append(f'{crate.name}: pub fn {name} says nothing of its answer')
+            if guarded.count(name) < 2:
+                faults.append(f'{crate.name}: pub fn {name} has {guarded.count(name)} must-fail edits, not two')
+        for file, fields in edits(crate):
+            if 'why' not in fields or fields.get('guards') not in names:
+                faults.append(f'{file.relative_to(root)}: says not which public function it guards, or not why')
+    return count
+
+
+# An edit that only makes a proof file unfit for the code shows nothing.
+UNFIT = ('that can be named from here', 'is not a name', 'not in scope', 'Scope', 'Parse', 'no field', 'was not admitted')
+
+
+def check_refusals():
+    count = 0
+    for crate in sorted(root.glob('crates/*')):
+        for file, fields in edits(crate):
+            log = root / 'target' / 'must-fail' / crate.name / file.stem / '.log'
+            if not log.exists():
+                faults.append(f'{file.relative_to(root)}: rt ci left no log of it')
+                continue
+            count += 1
+            text = log.read_text().replace(f'{log.parent}/', '')
+            found = re.findall(r'^(?:note: )?((?:src|specs|proofs)/\S+?):\d+:\d+: (.*)$', text, re.M)
+            if not found:
+                faults.append(f'{file.relative_to(root)}: its log names no fact')
+            elif any(word in found[0][1] for word in UNFIT):
+                faults.append(f'{file.relative_to(root)}: refused first at {found[0][0]}: {found[0][1][:120]}')
+            if 'law' in fields:
+                where, law = fields['law'].split()
+                if not any(f == where and f'`{law}`' in m for f, m in found):
+                    faults.append(f'{file.relative_to(root)}: {law} of {where} did not refuse it')
+    return count
+
+
+def declares(file, name):
+    text = file.read_text()
+    if file.suffix == '.rt':
+        return re.search(rf'\b(fn|struct|enum) {re.escape(name.split("::")[-1])}\b', text)
+    return re.search(rf'^\s*(?:(?:abbrev|unfoldable|pub|record|data) )*{re.escape(name)}(?: |$)', text, re.M)
+
+
+def check_claims():
+    """A claim is cited as `name` (`path`)."""
+    cited = re.findall(r'`([^`\s]+)` \(`([^`\s]+)`\)', (root / 'docs' / 'CLAIMS.md').read_text())
+    for name, path in cited:
+        file = root / path
+        if not file.is_file() or not declares(file, name):
+            faults.append(f'docs/CLAIMS.md: {name} does not stand in {path}')
+    return len(cited)
+
+
+def check_paths():
+    files = subprocess.run(['git', 'ls-files', '-z'], cwd=root, check=True, capture_output=True).stdout.decode().split('\0')
+    machine = re.compile(r'(^|[^\w.-])/(' + '|'.join(['work', 'tmp', 'root', 'home', 'opt']) + r')/\w')
+    for name in filter(None, files):
+        try:
+            text = (root / name).read_text()
+        except UnicodeDecodeError:
+            continue
+        for i, line in enumerate(text.split('\n'), 1):
+            if machine.search(line):
+                faults.append(f'{name}:{i}: names a path of one machine')
+    return len(files) - 1
+
+
+functions, refusals, claims, files = check_contracts(), check_refusals(), check_claims(), check_paths()
+if min(functions, refusals, claims, files) == 0:
+    faults.append('nothing was checked: no public function, no refusal, no claim or no file was found')
+for fault in faults:
+    print(f'repository: {fault}')
+print(f'repository: {functions} public functions, {refusals} refused edits, {claims} citations, {files} files, {len(faults)} faults')
+sys.exit(1 if faults else 0)
