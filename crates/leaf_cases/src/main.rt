@@ -27,6 +27,14 @@ fn fields_case(case: &[u8; 24]) {
     io::write_all(STDOUT_FILENO, b"\n");
 }
 
+fn print_label(label: u8) {
+    if label != 0 {
+        io::write_all(STDOUT_FILENO, b"P");
+        io::print_decimal(STDOUT_FILENO, label as u64);
+        io::write_all(STDOUT_FILENO, b" ");
+    }
+}
+
 fn print_block(block: Block) {
     match block {
         Block::Outside => {
@@ -47,12 +55,7 @@ fn block_case(case: &[u8; 24]) {
     let rows = fields::number16(case[10], case[11]);
     let column = fields::number16(case[12], case[13]);
     let row = fields::number16(case[14], case[15]);
-    let label = case[22];
-    if label != 0 {
-        io::write_all(STDOUT_FILENO, b"P");
-        io::print_decimal(STDOUT_FILENO, label as u64);
-        io::write_all(STDOUT_FILENO, b" ");
-    }
+    print_label(case[22]);
     let vector = prediction::vector_of(fields::number32(case[16], case[17], case[18], case[19]));
     io::print_hex(STDOUT_FILENO, prediction::word_of(vector) as u64, 8);
     if prediction::vector_in_range(vector, case[20], case[21]) {
