@@ -1,10 +1,13 @@
 -- The laws of `bits` and `withBits`, over position and width.
-use mathlib.Core.Path.{_≡_, refl, sym, ap, ap₂, _∙_}
+use mathlib.Core.Path.{_≡_, refl, sym, ap, ap₂, subst, subst₂, _∙_}
+use mathlib.Core.Bool.{Bool, true, false, _||_}
 use mathlib.Core.Logic.{_⊎_, inl, inr}
 use Prim.Native.Nat.{ℕ, _+_, _*_, _-_, _/_, _%_, _^_, _≤_, _<_, min}
 use native.Mathlib.Nat.{add-assoc, add-zero, zero-add, add-mul, mul-assoc, zero-mul, mod-one, mod-lt, mod-eq-of-lt, div-eq-of-lt, lt-of-lt-of-le, eq-zero-or-pos}
 use native.Mathlib.Omega.{arith}
-use lib.Pow.{pow-pos, pow-mono, pow-add, shr-shr, high, low, split, field, mod-mod-pow, mod-pow-add}
+use borrow.Author.Tests.{ltb-true}
+use lib.Dec.{T, ltb}
+use lib.Pow.{pow-pos, pow-mono, pow-add, shr-shr, shr-lt, high, low, split, field, mod-mod-pow, mod-pow-add}
 use Rattle.fields.specs.Word.{width, bits, withBits, halvesOf, wordOfHalves}
 use Rattle.fields.specs.declared.Halves.{Halves}
 use Rattle.fields.proofs.Masks.{joined-lt}
@@ -93,6 +96,33 @@ module _ (word hi lo value : ℕ) where
       apart h l (inl a) = kept-below h l a
       apart h l (inr a) = kept-above h l a
 
+-- The same for a caller whose positions are numerals: `tt` decides them.
+pub field-put : (word hi lo value : ℕ) → value < 2 ^ width hi lo → bits (withBits word hi lo value) hi lo ≡ value
+field-put word hi lo value h = packed-back word hi lo value .0 ∙ mod-eq-of-lt h
+
+pub field-kept : (word hi lo value h l : ℕ) → T (ltb h lo || ltb hi l) → bits (withBits word hi lo value) h l ≡ bits word h l
+field-kept word hi lo value h l t = packed-back word hi lo value .1 h l (either (ltb h lo) (ltb hi l) refl refl t)
+  where
+    either : (p q : Bool) → ltb h lo ≡ p → ltb hi l ≡ q → T (p || q) → (h < lo) ⊎ (hi < l)
+    either true q e f t = inl (ltb-true h lo e)
+    either false true e f t = inr (ltb-true hi l f)
+
+-- A packed word is a word.
+pub with-bits-lt : (word hi lo value : ℕ) → word < 2 ^ 32 → withBits word hi lo value < 2 ^ 32
+with-bits-lt word hi lo value h = by (eq-zero-or-pos (width hi lo))
+  where
+    by : (width hi lo ≡ 0) ⊎ (0 < width hi lo) → withBits word hi lo value < 2 ^ 32
+    by (inl e) = subst (λ (x : ℕ). x < 2 ^ 32) (sym (same-word word hi lo value e)) h
+    by (inr p) =
+        let k = width hi lo + lo in
+        let s : 32 - k + k ≡ 32 = omega arith in
+        let high = shr-lt (32 - k) k (subst (λ (x : ℕ). word < 2 ^ x) (sym s) h) in
+        let low = joined-lt (width hi lo) lo (value-lt word hi lo value) (below-lt word hi lo value) in
+        subst₂ (λ (x y : ℕ). x < 2 ^ y)
+        (sym (add-assoc (word / 2 ^ k * 2 ^ k) (value % 2 ^ width hi lo * 2 ^ lo) (word % 2 ^ lo)))
+        s
+        (joined-lt (32 - k) k high low)
+
 -- A field above a word's highest bit is added to it.
 pub on-top : (word hi lo value : ℕ) → word < 2 ^ lo → value < 2 ^ width hi lo → withBits word hi lo value ≡ value * 2 ^ lo + word
 on-top word hi lo value hw hv =
@@ -102,7 +132,8 @@ on-top word hi lo value hw hv =
     ap₂ (λ (x y : ℕ). x + y * 2 ^ lo + word % 2 ^ lo) none (mod-eq-of-lt hv)
     ∙ ap₂ (λ (x y : ℕ). x + y) (zero-add (value * 2 ^ lo)) (mod-eq-of-lt hw)
 
--- A word is its fields: two that agree below bit lo and in `hi:lo` agree below bit hi + 1.
+-- A word is its fields: two that agree below bit lo and in `hi:lo` agree below bit hi + 1, and so, field by field from the
+-- lowest up, two that agree in all their fields are equal.
 pub agree-up : (a b hi lo : ℕ) → lo ≤ hi → hi < 32 → a % 2 ^ lo ≡ b % 2 ^ lo → bits a hi lo ≡ bits b hi lo → a % 2 ^ (hi + 1) ≡ b % 2 ^ (hi + 1)
 agree-up a b hi lo h t below here =
     let s : hi + 1 ≡ width hi lo + lo = omega arith in
@@ -111,6 +142,9 @@ agree-up a b hi lo h t below here =
     ∙ ap₂ (λ (x y : ℕ). x * 2 ^ lo + y) here below
     ∙ sym (mod-pow-add b (width hi lo) lo)
     ∙ ap (λ (x : ℕ). b % 2 ^ x) (sym s)
+
+pub same-below-32 : (a b : ℕ) → a < 2 ^ 32 → b < 2 ^ 32 → a % 2 ^ 32 ≡ b % 2 ^ 32 → a ≡ b
+same-below-32 a b ha hb e = sym (mod-eq-of-lt ha) ∙ e ∙ mod-eq-of-lt hb
 
 -- A word's halves and the word of two halves undo each other.
 abbrev pub halves : ℕ → ℕ → Halves
