@@ -1,13 +1,13 @@
 -- Differences of two naturals, as integers.
 use mathlib.Core.Path.{_≡_, refl, sym, ap, ap₂, subst, _∙_}
-use mathlib.Core.Bool.{Bool, true, false, cond, _&&_}
+use mathlib.Core.Bool.{Bool, true, false, cond, not, _&&_}
 use mathlib.Core.Logic.{_⊎_, inl, inr}
 use Prim.Native.Nat.{ℕ, zero, suc, _+_, _*_, _-_, _≤_, _<_}
-use native.Mathlib.Nat.{mul-le-mul}
+use native.Mathlib.Nat.{add-comm, mul-le-mul}
 use native.Mathlib.Omega.{arith}
 use borrow.Author.Tests.{ltb-true, ltb-false, lt-ltb, le-ltb, le-leb, lt-leb}
 use lib.Dec.{T, ltb, leb, leb→le, le→leb, ltb→lt, lt→ltb}
-use lib.IntN.{ℤ, pos, negsuc, negℤ, subℕ, _+ℤ_}
+use lib.IntN.{ℤ, pos, negsuc, negℤ, subℕ, _+ℤ_, +ℤ-comm}
 use lib.Signed.{leZ, ltZ, _≤ℤ_, _<ℤ_}
 
 pub split : (a b : ℕ) → (a < b) ⊎ (b ≤ a)
@@ -55,11 +55,7 @@ add-sub m a b = by (split a b)
     by (inr h) = let e : m + (a - b) ≡ m + a - b = omega arith in ap (λ (z : ℤ). pos m +ℤ z) (sub-pos a b h) ∙ ap pos e ∙ sym (sub-pos (m + a) b (omega arith))
 
 pub sub-add : (m a b : ℕ) → subℕ a b +ℤ pos m ≡ subℕ (a + m) b
-sub-add m a b = by (split a b)
-  where
-    by : (a < b) ⊎ (b ≤ a) → subℕ a b +ℤ pos m ≡ subℕ (a + m) b
-    by (inl h) = ap (λ (z : ℤ). z +ℤ pos m) (sub-neg a b h) ∙ sub-eq m (suc (b - suc a)) (a + m) b (omega arith)
-    by (inr h) = let e : a - b + m ≡ a + m - b = omega arith in ap (λ (z : ℤ). z +ℤ pos m) (sub-pos a b h) ∙ ap pos e ∙ sym (sub-pos (a + m) b (omega arith))
+sub-add m a b = +ℤ-comm (subℕ a b) (pos m) ∙ add-sub m a b ∙ ap (λ (n : ℕ). subℕ n b) (add-comm m a)
 
 pub neg-sub : (n k : ℕ) → n ≤ k → negℤ (pos n) ≡ subℕ (k - n) k
 neg-sub zero k h = sym (sub-pos (k - 0) k (omega arith) ∙ ap pos (omega arith))
@@ -87,14 +83,21 @@ le-sums a b c d = by (split a b) (split c d)
     by (inr h) (inl l) = ap₂ leZ (sub-pos a b h) (sub-neg c d l) ∙ sym (lt-leb (a + d) (c + b) (omega arith))
     by (inr h) (inr l) = ap₂ leZ (sub-pos a b h) (sub-pos c d l) ∙ leb-same (a - b) (c - d) (a + d) (c + b) (omega arith) (omega arith)
 
-pub lt-sums : (a b c d : ℕ) → ltZ (subℕ a b) (subℕ c d) ≡ ltb (a + d) (c + b)
-lt-sums a b c d = by (split a b) (split c d)
+ltb-not : (a b : ℕ) → ltb a b ≡ not (leb b a)
+ltb-not a b = by (split a b)
   where
-    by : (a < b) ⊎ (b ≤ a) → (c < d) ⊎ (d ≤ c) → ltZ (subℕ a b) (subℕ c d) ≡ ltb (a + d) (c + b)
-    by (inl h) (inl l) = ap₂ ltZ (sub-neg a b h) (sub-neg c d l) ∙ leb-same (suc (d - suc c)) (b - suc a) (suc (a + d)) (c + b) (omega arith) (omega arith)
-    by (inl h) (inr l) = ap₂ ltZ (sub-neg a b h) (sub-pos c d l) ∙ sym (lt-ltb (a + d) (c + b) (omega arith))
-    by (inr h) (inl l) = ap₂ ltZ (sub-pos a b h) (sub-neg c d l) ∙ sym (le-ltb (a + d) (c + b) (omega arith))
-    by (inr h) (inr l) = ap₂ ltZ (sub-pos a b h) (sub-pos c d l) ∙ leb-same (suc (a - b)) (c - d) (suc (a + d)) (c + b) (omega arith) (omega arith)
+    by : (a < b) ⊎ (b ≤ a) → ltb a b ≡ not (leb b a)
+    by (inl h) = lt-ltb a b h ∙ ap not (sym (lt-leb b a h))
+    by (inr h) = le-ltb a b h ∙ ap not (sym (le-leb b a h))
+
+ltZ-not : (x y : ℤ) → ltZ x y ≡ not (leZ y x)
+ltZ-not (pos a) (pos b) = ltb-not a b
+ltZ-not (pos a) (negsuc b) = refl
+ltZ-not (negsuc a) (pos b) = refl
+ltZ-not (negsuc a) (negsuc b) = ltb-not b a
+
+pub lt-sums : (a b c d : ℕ) → ltZ (subℕ a b) (subℕ c d) ≡ ltb (a + d) (c + b)
+lt-sums a b c d = ltZ-not (subℕ a b) (subℕ c d) ∙ ap not (le-sums c d a b) ∙ sym (ltb-not (a + d) (c + b))
 
 module _ (a b c d : ℕ) where
   pub le-means : subℕ a b ≤ℤ subℕ c d → a + d ≤ c + b

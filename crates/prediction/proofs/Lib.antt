@@ -5,5 +5,7 @@ pub mod CodeRange
 pub mod ChromaInside
 pub mod AddressGrows
 pub mod ExtentLaws
+pub mod SpanLaws
+pub mod BlockBytes
 pub mod BlockLaws
 pub mod Worked

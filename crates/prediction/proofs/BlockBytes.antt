@@ -1,0 +1,103 @@
+-- The extent of a block that lies inside is exact for the bytes that the block occupies: from the two address laws alone.
+use mathlib.Core.Path.{_≡_, refl}
+use mathlib.Core.Bool.{true}
+use mathlib.Core.Logic.{_⊎_, inl, inr}
+use Prim.Native.Nat.{ℕ, _+_, _*_, _≤_, _<_}
+use native.Mathlib.Nat.{le-trans}
+use native.Mathlib.Omega.{arith}
+use lib.IntN.{ℤ}
+use Rattle.prediction.specs.Spans.{inside}
+use Rattle.prediction.specs.Addresses.{Plane, luma, cb, cr, address, sampleByte}
+use Rattle.prediction.specs.Extents.{Exact}
+use Rattle.prediction.specs.Blocks.{sizeIn, componentIn, OccupiesIn, Occupies, blockInside, lastOf, planeExtent, blockExtent}
+use Rattle.prediction.specs.declared.Vector.{Vector}
+use Rattle.prediction.specs.declared.Surface.{Surface}
+use Rattle.prediction.specs.declared.Grid.{Grid}
+use Rattle.prediction.specs.declared.Position.{Position}
+use Rattle.prediction.proofs.Integers.{both}
+use Rattle.prediction.proofs.SpanLaws.{last-covered, up-to-last}
+use Rattle.prediction.proofs.ChromaInside.{chroma-inside}
+use Rattle.prediction.proofs.AddressGrows.{address-column, address-row}
+use Rattle.prediction.proofs.ExtentLaws.{join-exact, exact-same}
+
+-- ---- bytes grow with the samples, in each plane
+grows : {pitch a b c d : ℕ} → 16 ≤ pitch → a ≤ b → c ≤ d → address pitch a c ≤ address pitch b d
+grows {pitch} {a} {b} {c} {d} wide h k = le-trans (address-column pitch c a b wide h) (address-row pitch b c d wide k)
+
+sample-grows : (s : Surface) (p : Plane) {x x′ y y′ : ℕ} → 16 ≤ s .pitch → x ≤ x′ → y ≤ y′ → sampleByte s p x y ≤ sampleByte s p x′ y′
+sample-grows s luma wide h k = grows wide h k
+sample-grows s cb wide h k = grows wide (omega arith) (omega arith)
+sample-grows s cr wide h k = grows wide (omega arith) (omega arith)
+
+-- Cr stands behind Cb
+cb-cr : (s : Surface) (x y : ℕ) → 16 ≤ s .pitch → sampleByte s cb x y ≤ sampleByte s cr x y
+cb-cr s x y w = address-column (s .pitch) (s .«chroma_row» + y) (2 * x) (2 * x + 1) w (omega arith)
+
+-- ---- where the luma block lies inside, each plane's block does
+each-plane : (place n : ℕ) (v : ℤ) → inside 16 place n v ≡ true → (p : Plane) → inside (sizeIn p) place n (componentIn p v) ≡ true
+each-plane place n v t luma = t
+each-plane place n v t cb = chroma-inside 8 place n v t
+each-plane place n v t cr = chroma-inside 8 place n v t
+
+pub tests : (g : Grid) (at : Position) (v : Vector) → blockInside g at v ≡ true → (inside 16 (at .column) (g .columns) (v .x) ≡ true) × (inside 16 (at .row) (g .rows) (v .y) ≡ true)
+tests g at v = both (inside 16 (at .column) (g .columns) (v .x)) (inside 16 (at .row) (g .rows) (v .y))
+
+size-pos : (p : Plane) → 0 < sizeIn p
+size-pos luma = omega arith
+size-pos cb = omega arith
+size-pos cr = omega arith
+
+-- ---- what a plane touches
+module _ (s : Surface) (g : Grid) (at : Position) (v : Vector) (wide : 16 ≤ s .pitch) (t : blockInside g at v ≡ true) where
+  columns : (p : Plane) → inside (sizeIn p) (at .column) (g .columns) (componentIn p (v .x)) ≡ true
+  columns = each-plane (at .column) (g .columns) (v .x) (tests g at v t .0)
+
+  rows : (p : Plane) → inside (sizeIn p) (at .row) (g .rows) (componentIn p (v .y)) ≡ true
+  rows = each-plane (at .row) (g .rows) (v .y) (tests g at v t .1)
+
+  plane-below : (p : Plane) (byte : ℕ) → OccupiesIn p s at v byte → byte < planeExtent s at v p .end
+  plane-below p byte o =
+      let x = up-to-last (sizeIn p) (at .column) (g .columns) (componentIn p (v .x)) (columns p) (o .x) (o .in-columns) in
+      let y = up-to-last (sizeIn p) (at .row) (g .rows) (componentIn p (v .y)) (rows p) (o .y) (o .in-rows) in
+      omega (arith, sample-grows s p wide x y, o .stands)
+
+  last-sample : (p : Plane)
+      → OccupiesIn p s at v
+      (sampleByte s p (lastOf (sizeIn p) (at .column) (componentIn p (v .x))) (lastOf (sizeIn p) (at .row) (componentIn p (v .y))))
+  last-sample p =
+      record {
+        x = lastOf (sizeIn p) (at .column) (componentIn p (v .x));
+        y = lastOf (sizeIn p) (at .row) (componentIn p (v .y));
+        in-columns = last-covered (sizeIn p) (at .column) (g .columns) (componentIn p (v .x)) (size-pos p) (columns p);
+        in-rows = last-covered (sizeIn p) (at .row) (g .rows) (componentIn p (v .y)) (size-pos p) (rows p);
+        stands = refl;
+      }
+
+  luma-exact : Exact (OccupiesIn luma s at v) (planeExtent s at v luma)
+  luma-exact = record { below = plane-below luma; reached = λ h. (_, last-sample luma, refl) }
+
+  -- a Cb sample has its Cr sample behind it
+  chroma-exact : Exact (λ (byte : ℕ). OccupiesIn cb s at v byte ⊎ OccupiesIn cr s at v byte) (planeExtent s at v cr)
+  chroma-exact = record { below = under; reached = λ h. (_, inr (last-sample cr), refl) }
+    where
+      under : (byte : ℕ) → OccupiesIn cb s at v byte ⊎ OccupiesIn cr s at v byte → byte < planeExtent s at v cr .end
+      under byte (inl o) =
+          let behind = plane-below cr (sampleByte s cr (o .x) (o .y)) (record { x = o .x; y = o .y; in-columns = o .in-columns; in-rows = o .in-rows; stands = refl }) in
+          omega (arith, cb-cr s (o .x) (o .y) wide, o .stands)
+      under byte (inr o) = plane-below cr byte o
+
+  pub extent-exact : Exact (Occupies s at v) (blockExtent s at v)
+  extent-exact = exact-same joins parts (join-exact luma-exact chroma-exact)
+    where
+      joins : (byte : ℕ) → OccupiesIn luma s at v byte ⊎ (OccupiesIn cb s at v byte ⊎ OccupiesIn cr s at v byte) → Occupies s at v byte
+      joins byte (inl o) = (luma, o)
+      joins byte (inr (inl o)) = (cb, o)
+      joins byte (inr (inr o)) = (cr, o)
+
+      in-part : (byte : ℕ) (p : Plane) → OccupiesIn p s at v byte → OccupiesIn luma s at v byte ⊎ (OccupiesIn cb s at v byte ⊎ OccupiesIn cr s at v byte)
+      in-part byte luma o = inl o
+      in-part byte cb o = inr (inl o)
+      in-part byte cr o = inr (inr o)
+
+      parts : (byte : ℕ) → Occupies s at v byte → OccupiesIn luma s at v byte ⊎ (OccupiesIn cb s at v byte ⊎ OccupiesIn cr s at v byte)
+      parts byte o = in-part byte (o .0) (o .1)
