@@ -8,6 +8,7 @@
 use libc::STDIN_FILENO;
 use libc::STDOUT_FILENO;
 use prediction::Block;
+use prediction::Extent;
 use prediction::Grid;
 use prediction::Position;
 use prediction::Surface;
@@ -42,7 +43,8 @@ fn print_block(block: Block) {
         }
         Block::Inside(extent) => {
             io::write_all(STDOUT_FILENO, b"inside ");
-            io::print_decimal(STDOUT_FILENO, extent.end);
+            let touched = Extent::empty().join(extent);
+            io::print_decimal(STDOUT_FILENO, touched.end);
             io::write_all(STDOUT_FILENO, b"\n");
         }
     }
