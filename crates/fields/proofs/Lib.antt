@@ -1,4 +1,6 @@
-pub mod Masks
+-- for the crates above
 pub mod Fields
 pub mod LittleEndian
-pub mod Worked
+-- for this crate alone
+mod Masks
+mod Worked

@@ -1,11 +1,13 @@
-pub mod Integers
+-- for the crates above
 pub mod TwosComplement
-pub mod Components
-pub mod CodeRange
-pub mod ChromaInside
-pub mod AddressGrows
 pub mod ExtentLaws
-pub mod SpanLaws
-pub mod BlockBytes
 pub mod BlockLaws
-pub mod Worked
+-- for this crate alone
+mod Integers
+mod Components
+mod CodeRange
+mod ChromaInside
+mod AddressGrows
+mod SpanLaws
+mod BlockBytes
+mod Worked
