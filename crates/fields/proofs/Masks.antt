@@ -1,5 +1,5 @@
 -- What shifts, masks and `|` compute, as quotients, remainders and sums.
-use mathlib.Core.Path.{_≡_, refl, sym, ap, ap₂, _∙_, subst}
+use mathlib.Core.Path.{_≡_, sym, ap, ap₂, _∙_, subst}
 use Prim.Native.Nat.{ℕ, _+_, _*_, _-_, _/_, _%_, _^_, _≤_, _<_}
 use native.Mathlib.Nat.{one-mul, mod-eq-of-lt, lt-of-le-of-lt, lt-of-lt-of-le, mod-lt, add-assoc, zero-add, zero-mul, div-eq-of-lt, div-mul-le-self}
 use lib.Arith.{digits-lt}

@@ -1,6 +1,6 @@
 -- The two laws of an address: it grows with the column and with the row. Whatever is claimed of touched bytes rests on them
 -- and on nothing else of the address. The premise on the pitch is for numberings that are not plain rows.
-use Prim.Native.Nat.{ℕ, _+_, _*_, _≤_}
+use Prim.Native.Nat.{ℕ, _≤_}
 use native.Mathlib.Nat.{mul-le-mul-right}
 use native.Mathlib.Omega.{arith}
 use Rattle.prediction.specs.Addresses.{address}

@@ -1,5 +1,5 @@
 -- Where the luma block lies in the picture, the chroma block lies in its planes: once over size and component.
-use mathlib.Core.Path.{_≡_, refl, sym, ap, subst, _∙_}
+use mathlib.Core.Path.{_≡_, sym, ap, subst, _∙_}
 use mathlib.Core.Bool.{true}
 use mathlib.Core.Logic.{_⊎_, inl, inr}
 use Prim.Native.Nat.{ℕ, _+_, _*_, _/_, _%_, _≤_, _<_}
@@ -7,7 +7,7 @@ use native.Mathlib.Nat.{mul-assoc}
 use native.Mathlib.Omega.{arith}
 use lib.IntN.{ℤ, subℕ}
 use Rattle.prediction.specs.Spans.{inside, halved}
-use Rattle.prediction.proofs.Integers.{split, Moved, moved}
+use Rattle.prediction.proofs.Integers.{split, moved}
 use Rattle.prediction.proofs.Components.{half-below, half-above, inside-means, inside-holds}
 
 -- p and n are the luma places' samples over 2, u the halved component plus k

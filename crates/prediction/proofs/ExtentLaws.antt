@@ -1,5 +1,5 @@
 -- The empty extent is exact for nothing, and the join of two exact extents for what either is exact for.
-use mathlib.Core.Path.{_≡_, _∙_}
+use mathlib.Core.Path.{_≡_}
 use mathlib.Core.Logic.{_⊎_, inl, inr}
 use Prim.Native.Nat.{ℕ, _+_, _≤_, _<_, max}
 use native.Mathlib.Nat.{le-antisymm}

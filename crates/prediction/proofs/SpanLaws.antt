@@ -7,7 +7,7 @@ use lib.IntN.{ℤ, pos, subℕ}
 use lib.Signed.{_≤ℤ_, _<ℤ_}
 use Rattle.prediction.specs.Spans.{inside, Covers}
 use Rattle.prediction.specs.Blocks.{Within, lastOf}
-use Rattle.prediction.proofs.Integers.{pos-sub, Moved, moved, le-means, le-holds, lt-means, lt-holds}
+use Rattle.prediction.proofs.Integers.{pos-sub, moved, le-means, le-holds, lt-means, lt-holds}
 use Rattle.prediction.proofs.Components.{inside-means, inside-holds, covers-means, covers-holds, last-is}
 
 -- the test on the ends says that every sample lies in the picture

@@ -1,7 +1,7 @@
 -- Two's complement at sixteen bits: the machine's reading of the bits is the definition's, and the two definitions undo
 -- each other; so a vector's word and a word's vector do.
 use mathlib.Core.Path.{_≡_, refl, sym, ap, ap₂, subst, _∙_}
-use mathlib.Core.Bool.{Bool, true, false, cond}
+use mathlib.Core.Bool.{true, false}
 use mathlib.Core.Logic.{_⊎_, inl, inr}
 use Prim.Native.Nat.{ℕ, suc, _-_, _^_, _<_, _≤_}
 use native.Mathlib.Omega.{arith}
@@ -10,7 +10,7 @@ use borrow.Author.Tests.{ltb-true, lt-ltb, le-ltb}
 use lib.IntN.{ℤ, pos, negsuc}
 use lib.Signed.{mag, ltZ}
 use mir.Syntax.{w16}
-use mir.Val.{sel, toZ, ofZ, SFits}
+use mir.Val.{toZ, ofZ, SFits}
 use mir.Facts.{toZ-ofZ, ofZ-toZ, sfits-toZ}
 use Rattle.fields.specs.Word.{halvesOf, wordOfHalves}
 use Rattle.fields.specs.declared.Halves.{Halves}

@@ -1,19 +1,16 @@
 -- What document 01 works out by number, computed from the definitions.
 use mathlib.Core.Path.{_≡_, refl}
-use mathlib.Core.Bool.{Bool, true, false}
-use mathlib.Core.List.{List, [], _∷_, map}
+use mathlib.Core.Bool.{true, false}
+use mathlib.Core.List.{[], _∷_, map}
 use Prim.Native.Nat.{ℕ}
 use lib.IntN.{ℤ, pos, negℤ}
-use Rattle.prediction.specs.Vectors.{signed16, vectorOf, wordOf}
+use Rattle.prediction.specs.Vectors.{vectorOf, wordOf}
 use Rattle.prediction.specs.Ranges.{inRange, vectorInRange}
 use Rattle.prediction.specs.Spans.{firstOf, countOf, halved}
 use Rattle.prediction.specs.Addresses.{address}
 use Rattle.prediction.specs.Extents.{joined}
 use Rattle.prediction.specs.Blocks.{blockAt}
 use Rattle.prediction.specs.declared.Vector.{Vector}
-use Rattle.prediction.specs.declared.Surface.{Surface}
-use Rattle.prediction.specs.declared.Grid.{Grid}
-use Rattle.prediction.specs.declared.Position.{Position}
 use Rattle.prediction.specs.declared.Block.{Block}
 use Rattle.prediction.specs.declared.Block.the-variants.{Outside, Inside}
 

@@ -1,4 +1,4 @@
-use mathlib.Core.Path.{_≡_, ap, ap₂, _∙_}
+use mathlib.Core.Path.{ap, ap₂, _∙_}
 use Rattle.fields.specs.declared.Halves.{Halves}
 use Rattle.prediction.specs.Vectors.{signed16, vectorOf}
 use Rattle.prediction.proofs.TwosComplement.{pair, read-back}

@@ -1,4 +1,4 @@
-use mathlib.Core.Path.{_≡_, ap, ap₂, _∙_}
+use mathlib.Core.Path.{ap, ap₂, _∙_}
 use Rattle.fields.specs.Word.{wordOfHalves}
 use Rattle.fields.proofs.Fields.{halves}
 use Rattle.prediction.specs.Vectors.{bits16, wordOf}
