@@ -3,14 +3,14 @@ use mathlib.Core.Path.{_≡_, refl, sym, ap, ap₂, subst, subst₂, _∙_}
 use mathlib.Core.Bool.{Bool, true, false, _||_}
 use mathlib.Core.Logic.{_⊎_, inl, inr}
 use Prim.Native.Nat.{ℕ, _+_, _*_, _-_, _/_, _%_, _^_, _≤_, _<_}
-use native.Mathlib.Nat.{add-assoc, add-zero, zero-add, add-mul, mul-assoc, zero-mul, mod-one, mod-lt, mod-eq-of-lt, div-eq-of-lt, lt-of-lt-of-le, eq-zero-or-pos}
+use native.Mathlib.Nat.{add-assoc, add-zero, zero-add, add-mul, mul-assoc, zero-mul, mod-one, mod-lt, mod-eq-of-lt, lt-of-lt-of-le, eq-zero-or-pos}
 use native.Mathlib.Omega.{arith}
 use borrow.Author.Tests.{ltb-true}
 use lib.Dec.{T, ltb}
 use lib.Pow.{pow-pos, pow-mono, pow-add, shr-shr, shr-lt, high, low, split, field, mod-mod-pow, mod-pow-add}
 use Rattle.fields.specs.Word.{width, bits, withBits, halvesOf, wordOfHalves}
 use Rattle.fields.specs.declared.Halves.{Halves}
-use Rattle.fields.proofs.Masks.{joined-lt}
+use Rattle.fields.proofs.Masks.{joined-lt, nothing-above}
 
 -- numbers that agree above bit k, and numbers that agree below it
 high-agree : (a b k l : ℕ) → k ≤ l → a / 2 ^ k ≡ b / 2 ^ k → a / 2 ^ l ≡ b / 2 ^ l
@@ -127,8 +127,7 @@ with-bits-lt word hi lo value h = by (eq-zero-or-pos (width hi lo))
 pub on-top : (word hi lo value : ℕ) → word < 2 ^ lo → value < 2 ^ width hi lo → withBits word hi lo value ≡ value * 2 ^ lo + word
 on-top word hi lo value hw hv =
     let n = width hi lo in
-    let none : word / 2 ^ (n + lo) * 2 ^ (n + lo) ≡ 0 =
-    ap (λ (x : ℕ). x * 2 ^ (n + lo)) (div-eq-of-lt (lt-of-lt-of-le hw (pow-mono {i = lo} {j = n + lo} (omega arith)))) ∙ zero-mul (2 ^ (n + lo)) in
+    let none = nothing-above word (n + lo) (lt-of-lt-of-le hw (pow-mono {i = lo} {j = n + lo} (omega arith))) in
     ap₂ (λ (x y : ℕ). x + y * 2 ^ lo + word % 2 ^ lo) none (mod-eq-of-lt hv)
     ∙ ap₂ (λ (x y : ℕ). x + y) (zero-add (value * 2 ^ lo)) (mod-eq-of-lt hw)
 

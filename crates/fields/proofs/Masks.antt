@@ -22,6 +22,10 @@ or-shl {v} {a} n k hv ha h = ap (bitOr a) (shl-exact n k 32 hv h) ∙ or-shifted
 pub high-part : (w k : ℕ) → w < 2 ^ 32 → ((w / 2 ^ k) * 2 ^ k) % 2 ^ 32 ≡ w / 2 ^ k * 2 ^ k
 high-part w k h = mod-eq-of-lt (lt-of-le-of-lt (div-mul-le-self w (2 ^ k)) h)
 
+-- nothing stands above bit k
+pub nothing-above : (w k : ℕ) → w < 2 ^ k → w / 2 ^ k * 2 ^ k ≡ 0
+nothing-above w k h = ap (λ (x : ℕ). x * 2 ^ k) (div-eq-of-lt h) ∙ zero-mul (2 ^ k)
+
 -- what stands above a field of n bits at bit k, the field, what stands below
 abbrev pub three : ℕ → ℕ → ℕ → ℕ → ℕ
 three word value n k = word / 2 ^ (n + k) * 2 ^ (n + k) + value % 2 ^ n * 2 ^ k + word % 2 ^ k
@@ -42,6 +46,5 @@ module _ (word value n k : ℕ) {b f : ℕ} (fits : word < 2 ^ 32) (eb : b ≡ 2
   -- the field reaches bit 31: nothing stands above
   pub packed-top : 32 ≤ n + k → bitOr (bitAnd word b) ((bitAnd value f * 2 ^ k) % 2 ^ 32) ≡ three word value n k
   packed-top h =
-      let none : word / 2 ^ (n + k) * 2 ^ (n + k) ≡ 0 =
-      ap (λ (x : ℕ). x * 2 ^ (n + k)) (div-eq-of-lt (lt-of-lt-of-le fits (pow-mono h))) ∙ zero-mul (2 ^ (n + k)) in
+      let none = nothing-above word (n + k) (lt-of-lt-of-le fits (pow-mono h)) in
       lower ∙ ap (λ (x : ℕ). x + word % 2 ^ k) (sym (ap (λ (x : ℕ). x + value % 2 ^ n * 2 ^ k) none ∙ zero-add (value % 2 ^ n * 2 ^ k)))

@@ -1,10 +1,10 @@
 -- The range of an f code, for a component that is b - 32768.
 use mathlib.Core.Path.{_≡_, sym, ap, ap₂, _∙_}
-use mathlib.Core.Bool.{Bool, true, false, _&&_}
+use mathlib.Core.Bool.{Bool, true, _&&_}
 use Prim.Native.Nat.{ℕ, _+_, _*_, _-_, _^_, _≤_, _<_}
 use native.Mathlib.Nat.{mul-le-mul, lt-of-lt-of-le}
 use native.Mathlib.Omega.{arith}
-use borrow.Author.Tests.{le-leb, lt-leb, lt-ltb}
+use borrow.Author.Tests.{le-leb, lt-ltb}
 use lib.Dec.{leb, ltb}
 use lib.Pow.{pow-mono, shl-lt}
 use lib.IntN.{ℤ, pos, negℤ, subℕ}
@@ -31,15 +31,12 @@ module _ (size c b p : ℕ) (hs : 0 < size) (hb : b < 65536) (ep : p ≡ c - 1) 
       let l : 1 * 65536 ≤ size * 2 ^ p = mul-le-mul hs (pow-mono {i = 16} {j = p} h) in
       code-test ∙ ap₂ _&&_ (le-leb 32768 (b + size * 2 ^ p) (omega arith)) (lt-ltb b (32768 + size * 2 ^ p) (omega arith))
 
-  -- below the range, and not below it
-  pub code-below : (l : ℕ) → l ≡ size * 2 ^ p → b + l < 32768 → inRange size c (subℕ b 32768) ≡ false
-  code-below l e h = code-test ∙ ap (λ (t : Bool). t && ltb b (32768 + size * 2 ^ p)) (lt-leb 32768 (b + size * 2 ^ p) (omega arith))
-
-  pub code-from : (l : ℕ) → l ≡ size * 2 ^ p → 32768 ≤ b + l → inRange size c (subℕ b 32768) ≡ ltb b (32768 + l)
-  code-from l e h =
+  -- with l for the limit as the code shifts it, and the outcome of the first half
+  pub code-by : (l : ℕ) → l ≡ size * 2 ^ p → (t : Bool) → leb 32768 (b + l) ≡ t → inRange size c (subℕ b 32768) ≡ (t && ltb b (32768 + l))
+  code-by l e t h =
       code-test
-      ∙ ap (λ (t : Bool). t && ltb b (32768 + size * 2 ^ p)) (le-leb 32768 (b + size * 2 ^ p) (omega arith))
-      ∙ ap (λ (n : ℕ). ltb b (32768 + n)) (sym e)
+      ∙ ap (λ (n : ℕ). leb 32768 (b + n) && ltb b (32768 + n)) (sym e)
+      ∙ ap (λ (u : Bool). u && ltb b (32768 + l)) h
 
 -- the limit of a code, shifted, is small
 pub limit-lt : (size p : ℕ) → size < 256 → p < 16 → size * 2 ^ p < 8388608

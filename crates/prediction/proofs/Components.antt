@@ -1,6 +1,6 @@
 -- What the definitions on ℤ say of a component that is b - 2k, in ℕ. The code has k = 16384.
 use mathlib.Core.Path.{_≡_, refl, sym, ap, ap₂, subst, _∙_}
-use mathlib.Core.Bool.{true, _&&_}
+use mathlib.Core.Bool.{Bool, true, _&&_}
 use mathlib.Core.Logic.{_⊎_, inl, inr}
 use Prim.Native.Nat.{ℕ, suc, _+_, _*_, _-_, _/_, _%_, _≤_, _<_}
 use native.Mathlib.Omega.{arith}
@@ -69,6 +69,10 @@ module _ (size place b k : ℕ) where
 
       zero-last : size * place + b / 2 + (size + b % 2) + 0 ≡ size * place + b / 2 + (size + b % 2)
       zero-last = omega arith
+
+  -- with the outcome of its first half
+  pub inside-by : (n : ℕ) (t : Bool) → leb k (size * place + b / 2) ≡ t → inside size place n (subℕ b (2 * k)) ≡ (t && leb (size * place + b / 2 + (size + b % 2)) (size * n + k))
+  inside-by n t e = inside-is n ∙ ap (λ (u : Bool). u && leb (size * place + b / 2 + (size + b % 2)) (size * n + k)) e
 
   pub inside-means : (n : ℕ) → inside size place n (subℕ b (2 * k)) ≡ true → (k ≤ size * place + b / 2) × (size * place + b / 2 + (size + b % 2) ≤ size * n + k)
   inside-means n t =

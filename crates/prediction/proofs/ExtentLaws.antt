@@ -1,5 +1,5 @@
 -- The empty extent is exact for nothing, and the join of two exact extents for what either is exact for.
-use mathlib.Core.Path.{_≡_}
+use mathlib.Core.Path.{_≡_, ap}
 use mathlib.Core.Logic.{_⊎_, inl, inr}
 use Prim.Native.Nat.{ℕ, _+_, _≤_, _<_, max}
 use native.Mathlib.Nat.{le-antisymm}
@@ -7,6 +7,9 @@ use native.Mathlib.Omega.{arith}
 use Rattle.prediction.specs.Extents.{emptyExtent, joined, Exact}
 use Rattle.prediction.specs.declared.Extent.{Extent}
 use Rattle.prediction.proofs.Integers.{split}
+
+abbrev pub upTo : ℕ → Extent
+upTo n = record { end = n }
 
 pub empty-exact : Exact (λ (byte : ℕ). ⊥) emptyExtent
 unfolding emptyExtent
@@ -33,8 +36,8 @@ exact-same {P} {Q} {e} f g p =
     }
 
 -- One set of touched bytes has one exact extent.
-pub exact-once : {P : ℕ → Type 0} {e f : Extent} → Exact P e → Exact P f → e .end ≡ f .end
-exact-once {P} {e} {f} p q = le-antisymm (up p q) (up q p)
+pub exact-once : {P : ℕ → Type 0} {e f : Extent} → Exact P e → Exact P f → e ≡ f
+exact-once {P} {e} {f} p q = ap upTo (le-antisymm (up p q) (up q p))
   where
     up : {a b : Extent} → Exact P a → Exact P b → a .end ≤ b .end
     up {a} {b} h k = by (split (b .end) (a .end))

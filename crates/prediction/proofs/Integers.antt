@@ -61,6 +61,9 @@ pub neg-sub : (n k : ℕ) → n ≤ k → negℤ (pos n) ≡ subℕ (k - n) k
 neg-sub zero k h = sym (sub-pos (k - 0) k (omega arith) ∙ ap pos (omega arith))
 neg-sub (suc n) k h = let e : n ≡ k - suc (k - suc n) = omega arith in ap negsuc e ∙ sym (sub-neg (k - suc n) k (omega arith))
 
+pub neg-is : (n : ℕ) → negℤ (pos n) ≡ subℕ 0 n
+neg-is n = let e : n - n ≡ 0 = omega arith in neg-sub n n (omega arith) ∙ ap (λ (m : ℕ). subℕ m n) e
+
 -- tests that agree
 leb-same : (a b c d : ℕ) → (a ≤ b → c ≤ d) → (c ≤ d → a ≤ b) → leb a b ≡ leb c d
 leb-same a b c d f g = by (split b a)
@@ -117,9 +120,9 @@ pub both : (p q : Bool) → (p && q) ≡ true → (p ≡ true) × (q ≡ true)
 both true q t = (refl, t)
 both false q t = let z : _≡_ {A = ℕ} 0 1 = cc in absurd (omega arith)
 
-pub neg-is : (n : ℕ) → negℤ (pos n) ≡ subℕ 0 n
-neg-is zero = refl
-neg-is (suc n) = let e : n ≡ suc n - 1 = omega arith in ap negsuc e ∙ sym (sub-neg 0 (suc n) (omega arith))
-
 pub product-le : {a b : ℕ} (m n : ℕ) → a ≤ m → b ≤ n → a * b ≤ m * n
 product-le m n ha hb = mul-le-mul ha hb
+
+-- the samples before a block, for any size and place of their types
+pub samples-le : {size place : ℕ} → size < 256 → place < 65536 → size * place ≤ 255 * 65535
+samples-le {size} {place} hs hp = product-le 255 65535 (omega arith) (omega arith)

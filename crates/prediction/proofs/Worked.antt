@@ -11,14 +11,13 @@ use Rattle.prediction.specs.Addresses.{address}
 use Rattle.prediction.specs.Extents.{joined}
 use Rattle.prediction.specs.Blocks.{blockAt}
 use Rattle.prediction.specs.declared.Vector.{Vector}
+use Rattle.prediction.proofs.TwosComplement.{pair as vector}
+use Rattle.prediction.proofs.ExtentLaws.{upTo}
 use Rattle.prediction.specs.declared.Block.{Block}
 use Rattle.prediction.specs.declared.Block.the-variants.{Outside, Inside}
 
 abbrev minus : ℕ → ℤ
 minus n = negℤ (pos n)
-
-abbrev vector : ℤ → ℤ → Vector
-vector x y = record { x = x; y = y }
 
 -- x in the low half, y in the high half, two's complement
 vectors : map vectorOf (0x00000001 ∷ 0x00010000 ∷ 0xffff0003 ∷ 0x7fff8000 ∷ [])
@@ -58,7 +57,7 @@ abbrev answerTo : Vector → Block
 answerTo v = blockAt (record { pitch = 128; «chroma_row» = 16 }) (record { columns = 2; rows = 1 }) (record { column = 0; row = 0 }) v
 
 abbrev inside : ℕ → Block
-inside n = Inside (record { end = n })
+inside n = Inside (upTo n)
 
 p8-to-p12 : map answerTo
     (vector (pos 0) (pos 0)

@@ -1,13 +1,10 @@
 use mathlib.Core.Path.{_≡_, ap}
-use Prim.Native.Nat.{ℕ, max}
+use Prim.Native.Nat.{max}
 use native.Mathlib.Omega.{arith}
 use Rattle.prediction.specs.Extents.{joined}
-use Rattle.prediction.specs.declared.Extent.{Extent}
+use Rattle.prediction.proofs.ExtentLaws.{upTo}
 use Rattle.prediction.proofs.Extent.join.Statement.{statement}
 use Rattle.prediction.proofs.Extent.join.Tie as tie
-
-abbrev upTo : ℕ → Extent
-upTo n = record { end = n }
 
 returns : tie.Need-returns
 unfolding joined

@@ -3,15 +3,12 @@ use Prim.Native.Nat.{ℕ, _+_, _*_}
 use Rattle.prediction.specs.Addresses.{address}
 use Rattle.prediction.specs.Extents.{joined}
 use Rattle.prediction.specs.Blocks.{lastOf}
-use Rattle.prediction.specs.declared.Extent.{Extent}
+use Rattle.prediction.proofs.ExtentLaws.{upTo}
 use Rattle.prediction.proofs.Components.{last-at}
 use native.Mathlib.Omega.{arith}
 use borrow.Author.Needs.{needs}
 use Rattle.prediction.proofs.blocks.block_extent.Statement.{statement}
 use Rattle.prediction.proofs.blocks.block_extent.Tie as tie
-
-abbrev upTo : ℕ → Extent
-upTo n = record { end = n }
 
 last-of-requires : tie.Need-last-of-requires
 last-of-requires c κs = search needs

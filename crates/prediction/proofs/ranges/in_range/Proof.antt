@@ -1,8 +1,10 @@
 use mathlib.Core.Path.{_≡_, sym}
 use Prim.Native.Nat.{_*_, _%_, _^_}
 use native.Mathlib.Omega.{arith}
+use mathlib.Core.Bool.{true, false}
+use borrow.Author.Tests.{lt-leb, le-leb}
 use lib.Pow.{shl-exact}
-use Rattle.prediction.proofs.CodeRange.{code-wide, code-below, code-from, limit-lt}
+use Rattle.prediction.proofs.CodeRange.{code-wide, code-by, limit-lt}
 use borrow.Author.Needs.{needs}
 use Rattle.prediction.proofs.ranges.in_range.Statement.{statement}
 use Rattle.prediction.proofs.ranges.in_range.Tie as tie
@@ -30,7 +32,7 @@ add-if2 c = omega (arith, limit c, limit-lt (c .before .before .args .size) (c .
 returns-2 : tie.Need-returns-2
 returns-2 c =
     let s = c .before .before .before in
-    sym (code-below (s .args .size) (s .args .code) (s .args .b) (c .before .before .exponent .result) (s .pre .0) (s .pre .1) (c .before .before .exponent .ensures) _ (limit (c .before)) (c .if2 .taken))
+    sym (code-by (s .args .size) (s .args .code) (s .args .b) (c .before .before .exponent .result) (s .pre .0) (s .pre .1) (c .before .before .exponent .ensures) _ (limit (c .before)) false (lt-leb _ _ (c .if2 .taken)))
 
 add-result : tie.Need-add-result
 add-result c = omega (arith, limit (c .before), limit-lt (c .before .before .before .args .size) (c .before .before .exponent .result) (c .before .before .before .fits .size .fits) (c .before .if1 .left))
@@ -38,7 +40,7 @@ add-result c = omega (arith, limit (c .before), limit-lt (c .before .before .bef
 returns-3 : tie.Need-returns-3
 returns-3 c =
     let s = c .before .before .before in
-    sym (code-from (s .args .size) (s .args .code) (s .args .b) (c .before .before .exponent .result) (s .pre .0) (s .pre .1) (c .before .before .exponent .ensures) _ (limit (c .before)) (c .if2 .left))
+    sym (code-by (s .args .size) (s .args .code) (s .args .b) (c .before .before .exponent .result) (s .pre .0) (s .pre .1) (c .before .before .exponent .ensures) _ (limit (c .before)) true (le-leb _ _ (c .if2 .left)))
 
 pub in-range-spec : {M : Type 1} → statement M
 in-range-spec =
