@@ -1,6 +1,8 @@
 -- for the crates above
+pub mod Elements
 pub mod Fields
 pub mod LittleEndian
+pub mod Packing
 -- for this crate alone
 mod Masks
 mod Worked

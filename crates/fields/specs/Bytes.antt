@@ -1,6 +1,7 @@
 -- Numbers as little-endian bytes: the lowest byte stands first.
 use Prim.Native.Nat.{ℕ, zero, suc, _+_, _*_, _/_, _%_}
 use mathlib.Core.List.{List, [], _∷_}
+use lib.ListN.{getD}
 
 -- The k lowest bytes of n.
 abbrev pub bytesOf : ℕ → ℕ → List ℕ
@@ -11,3 +12,8 @@ bytesOf (suc k) n = n % 256 ∷ bytesOf k (n / 256)
 abbrev pub numberOf : List ℕ → ℕ
 numberOf [] = 0
 numberOf (b ∷ bs) = b + 256 * numberOf bs
+
+-- The k elements of a list from index i on; 0 in place of one that is not there.
+abbrev pub elements : List ℕ → ℕ → ℕ → List ℕ
+elements xs i zero = []
+elements xs i (suc k) = getD xs i 0 ∷ elements xs (suc i) k

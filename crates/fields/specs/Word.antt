@@ -1,5 +1,6 @@
 -- The bits of a 32-bit word, as document 01 writes them: `31:16` are bits 31 down to 16.
 use Prim.Native.Nat.{ℕ, _+_, _*_, _-_, _/_, _%_, _^_, min}
+use mathlib.Core.List.{List, [], _∷_}
 use Rattle.fields.specs.declared.Halves.{Halves}
 
 -- How many bits `hi:lo` names: hi + 1 - lo, but a word has none above bit 31. None where hi is below lo.
@@ -14,6 +15,20 @@ bits word hi lo = word / 2 ^ lo % 2 ^ width hi lo
 abbrev pub withBits : ℕ → ℕ → ℕ → ℕ → ℕ
 withBits word hi lo value =
     word / 2 ^ (width hi lo + lo) * 2 ^ (width hi lo + lo) + value % 2 ^ width hi lo * 2 ^ lo + word % 2 ^ lo
+
+-- A field and what it holds: bits `hi:lo` have the value.
+pub record Field : Type 0 where
+  pub hi : ℕ
+  pub lo : ℕ
+  pub value : ℕ
+
+abbrev pub field : ℕ → ℕ → ℕ → Field
+field hi lo value = record { hi = hi; lo = lo; value = value }
+
+-- The word whose listed fields hold their values, and whose other bits are zero.
+abbrev pub packed : List Field → ℕ
+packed [] = 0
+packed (f ∷ fs) = withBits (packed fs) (f .hi) (f .lo) (f .value)
 
 -- A word's halves, and the word of two halves.
 abbrev pub halvesOf : ℕ → Halves

@@ -5,7 +5,7 @@ use std::fmt::Write as _;
 use std::path::Path;
 
 /// Bits hi:lo of a word, one by one. A word has no bit above 31.
-fn bits(word: u32, hi: u8, lo: u8) -> u32 {
+pub fn bits(word: u32, hi: u8, lo: u8) -> u32 {
     let mut value = 0;
     for bit in (lo..=hi).filter(|bit| *bit < 32).rev() {
         value = 2 * value + (word >> bit) % 2;
@@ -14,7 +14,7 @@ fn bits(word: u32, hi: u8, lo: u8) -> u32 {
 }
 
 /// The word with the lowest bits of value in hi:lo, one by one.
-fn with_bits(word: u32, hi: u8, lo: u8, value: u32) -> u32 {
+pub fn with_bits(word: u32, hi: u8, lo: u8, value: u32) -> u32 {
     let mut out = 0;
     for bit in (0..32).rev() {
         let from = if lo <= bit && bit <= hi { value >> (bit - lo) } else { word >> bit };
@@ -112,7 +112,7 @@ impl Block {
     }
 }
 
-fn word_of(x: i64, y: i64) -> u32 {
+pub fn word_of(x: i64, y: i64) -> u32 {
     (x.rem_euclid(0x1_0000) + 0x1_0000 * y.rem_euclid(0x1_0000)) as u32
 }
 

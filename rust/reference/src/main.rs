@@ -1,10 +1,17 @@
 //! A second reading of document 01, kept apart from the proved crates: it shares no code and no table with them. It writes
-//! stored cases with the answers that document 01 asks for, by the plainest means: bit by bit, sample by sample.
+//! stored cases with the answers that document 01 asks for, by the plainest means: bit by bit, sample by sample, and
+//! commands found by trying them all.
 //!
 //!     reference leaf DIR      writes DIR/stdin and DIR/stdout, the cases of crates/leaf_cases
+//!     reference command DIR   the same for headers, commands read alone and records written alone
 
+mod cases;
+mod command;
+mod command_cases;
 mod leaf;
 mod random;
+mod record;
+mod record_cases;
 
 use std::path::Path;
 use std::process::ExitCode;
@@ -13,8 +20,9 @@ fn main() -> ExitCode {
     let words: Vec<String> = std::env::args().skip(1).collect();
     let done = match words.iter().map(String::as_str).collect::<Vec<_>>()[..] {
         ["leaf", dir] => leaf::write(Path::new(dir)),
+        ["command", dir] => cases::write(Path::new(dir)),
         _ => {
-            eprintln!("usage: reference leaf DIR");
+            eprintln!("usage: reference leaf|command DIR");
             return ExitCode::from(2);
         }
     };

@@ -1,0 +1,27 @@
+use Rattle.command.specs.Cases.{motionOf}
+use borrow.Author.Needs.{needs}
+use Rattle.command.proofs.cases.motion_of.Statement.{statement}
+use Rattle.command.proofs.cases.motion_of.Tie as tie
+use Rattle.command.proofs.cases.motion_of.Reads as reads
+use Rattle.command.proofs.cases.motion_of.Lts as lts
+use Rattle.command.proofs.cases.inter_motion.Reads as inter-motion-reads
+
+enum-told : tie.Need-enum-told
+enum-told c = search needs
+
+enum-known-case : tie.Need-enum-known-case
+enum-known-case c = search needs
+
+inter-motion-requires : tie.Need-inter-motion-requires
+inter-motion-requires c κs = search needs
+
+returns : tie.Need-returns
+unfolding motionOf
+returns c = cc
+
+returns-2 : tie.Need-returns-2
+returns-2 c = cc
+
+pub motion-of-spec : {M : Type 1} → statement M
+motion-of-spec =
+    tie.close (tie.spec enum-told enum-known-case inter-motion-requires returns returns-2)

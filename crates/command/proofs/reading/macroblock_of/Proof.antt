@@ -1,0 +1,48 @@
+use Rattle.command.specs.Macroblocks.{macroblockOf}
+use borrow.Author.Needs.{needs}
+use Rattle.command.proofs.reading.macroblock_of.Statement.{statement}
+use Rattle.command.proofs.reading.macroblock_of.Tie as tie
+use Rattle.command.proofs.reading.macroblock_of.Reads as reads
+use Rattle.command.proofs.reading.macroblock_of.Lts as lts
+use Rattle.command.proofs.cases.case_of.Reads as case-of-reads
+use Rattle.command.proofs.reading.assembled.Reads as assembled-reads
+use Rattle.command.proofs.reading.motion_in.Reads as motion-in-reads
+use Rattle.command.proofs.reading.word_at.Reads as word-at-reads
+
+motion-in-requires : tie.Need-motion-in-requires
+motion-in-requires c κs = search needs
+
+case-of-requires : tie.Need-case-of-requires
+case-of-requires c κs = search needs
+
+word-at-requires : tie.Need-word-at-requires
+word-at-requires c κs = search needs
+
+word-at-requires-2 : tie.Need-word-at-requires-2
+word-at-requires-2 c κs = search needs
+
+word-at-requires-3 : tie.Need-word-at-requires-3
+word-at-requires-3 c κs = search needs
+
+word-at-requires-4 : tie.Need-word-at-requires-4
+word-at-requires-4 c κs = search needs
+
+assembled-requires : tie.Need-assembled-requires
+assembled-requires c κs = search needs
+
+returns : tie.Need-returns
+unfolding macroblockOf
+returns c = cc
+
+pub macroblock-of-spec : {M : Type 1} → statement M
+macroblock-of-spec =
+    tie.close
+    (tie.spec
+    motion-in-requires
+    case-of-requires
+    word-at-requires
+    word-at-requires-2
+    word-at-requires-3
+    word-at-requires-4
+    assembled-requires
+    returns)

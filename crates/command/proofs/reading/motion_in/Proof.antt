@@ -1,0 +1,27 @@
+use borrow.Author.Needs.{needs}
+use Rattle.command.proofs.reading.motion_in.Statement.{statement}
+use Rattle.command.proofs.reading.motion_in.Tie as tie
+use Rattle.command.proofs.reading.motion_in.Reads as reads
+use Rattle.command.proofs.reading.motion_in.Lts as lts
+use Rattle.command.proofs.reading.kind_in.Reads as kind-in-reads
+use Rattle.command.proofs.reading.word_at.Reads as word-at-reads
+
+word-at-requires : tie.Need-word-at-requires
+word-at-requires c κs = search needs
+
+kind-in-requires : tie.Need-kind-in-requires
+kind-in-requires c κs = search needs
+
+word-at-requires-2 : tie.Need-word-at-requires-2
+word-at-requires-2 c κs = search needs
+
+word-at-requires-3 : tie.Need-word-at-requires-3
+word-at-requires-3 c κs = search needs
+
+returns : tie.Need-returns
+returns c = cc
+
+pub motion-in-spec : {M : Type 1} → statement M
+motion-in-spec =
+    tie.close
+    (tie.spec word-at-requires kind-in-requires word-at-requires-2 word-at-requires-3 returns)

@@ -1,0 +1,27 @@
+use borrow.Author.Tests.{lt-leb, le-leb}
+use borrow.Author.Needs.{needs}
+use Rattle.command.proofs.rules.type_permitted.Statement.{statement}
+use Rattle.command.proofs.rules.type_permitted.Tie as tie
+use Rattle.command.proofs.rules.type_permitted.Reads as reads
+use Rattle.command.proofs.rules.type_permitted.Lts as lts
+use Rattle.command.proofs.reading.is_set.Reads as is-set-reads
+use Rattle.fields.proofs.bits.Reads as bits-reads
+
+bits-requires : tie.Need-bits-requires
+bits-requires c κs = search needs
+
+is-set-requires : tie.Need-is-set-requires
+is-set-requires c κs = search needs
+
+returns : tie.Need-returns
+returns c = simp (← c .before .is-set .ensures, c .if1 .taken, c .before .before .bits .ensures)
+
+returns-2 : tie.Need-returns-2
+returns-2 c = simp (← c .before .before .is-set .ensures, c .before .if1 .left, ← c .before .before .before .bits .ensures, lt-leb _ _ (c .if2 .taken))
+
+returns-3 : tie.Need-returns-3
+returns-3 c = simp (← c .before .before .is-set .ensures, c .before .if1 .left, ← c .before .before .before .bits .ensures, le-leb _ _ (c .if2 .left))
+
+pub type-permitted-spec : {M : Type 1} → statement M
+type-permitted-spec =
+    tie.close (tie.spec bits-requires is-set-requires returns returns-2 returns-3)

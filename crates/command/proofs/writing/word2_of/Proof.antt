@@ -1,0 +1,25 @@
+use borrow.Author.Needs.{needs}
+use Rattle.command.proofs.writing.word2_of.Statement.{statement}
+use Rattle.command.proofs.writing.word2_of.Tie as tie
+use Rattle.command.proofs.writing.word2_of.Reads as reads
+use Rattle.command.proofs.writing.word2_of.Lts as lts
+use Rattle.fields.proofs.with_bits.Reads as with-bits-reads
+
+cast-column : tie.Need-cast-column
+cast-column c = search needs
+
+cast-row : tie.Need-cast-row
+cast-row c = search needs
+
+with-bits-requires : tie.Need-with-bits-requires
+with-bits-requires c κs = search needs
+
+with-bits-requires-2 : tie.Need-with-bits-requires-2
+with-bits-requires-2 c κs = search needs
+
+returns : tie.Need-returns
+returns c = cc
+
+pub word2-of-spec : {M : Type 1} → statement M
+word2-of-spec =
+    tie.close (tie.spec cast-column cast-row with-bits-requires with-bits-requires-2 returns)

@@ -1,0 +1,39 @@
+use borrow.Author.Needs.{needs}
+use Rattle.command.proofs.writing.word3_of.Statement.{statement}
+use Rattle.command.proofs.writing.word3_of.Tie as tie
+use Rattle.command.proofs.writing.word3_of.Reads as reads
+use Rattle.command.proofs.writing.word3_of.Lts as lts
+use Rattle.fields.proofs.with_bits.Reads as with-bits-reads
+
+cast-pattern : tie.Need-cast-pattern
+cast-pattern c = search needs
+
+cast-target-size : tie.Need-cast-target-size
+cast-target-size c = search needs
+
+cast-max-size : tie.Need-cast-max-size
+cast-max-size c = search needs
+
+with-bits-requires : tie.Need-with-bits-requires
+with-bits-requires c κs = search needs
+
+with-bits-requires-2 : tie.Need-with-bits-requires-2
+with-bits-requires-2 c κs = search needs
+
+with-bits-requires-3 : tie.Need-with-bits-requires-3
+with-bits-requires-3 c κs = search needs
+
+returns : tie.Need-returns
+returns c = cc
+
+pub word3-of-spec : {M : Type 1} → statement M
+word3-of-spec =
+    tie.close
+    (tie.spec
+    cast-pattern
+    cast-target-size
+    cast-max-size
+    with-bits-requires
+    with-bits-requires-2
+    with-bits-requires-3
+    returns)

@@ -1,0 +1,70 @@
+use mathlib.Core.Path.{_≡_, sym, subst}
+use mathlib.Core.List.{List}
+use Prim.Native.Nat.{ℕ}
+use Rattle.fields.specs.Bytes.{elements}
+use Rattle.command.specs.Macroblocks.{wordsOf}
+use Rattle.command.proofs.CaseLaws.{vectors-listed}
+use borrow.Author.Needs.{needs}
+use Rattle.command.proofs.writing.words_of.Statement.{statement}
+use Rattle.command.proofs.writing.words_of.Tie as tie
+use Rattle.command.proofs.writing.words_of.Reads as reads
+use Rattle.command.proofs.writing.words_of.Lts as lts
+use Rattle.command.proofs.cases.motion_of.Reads as motion-of-reads
+use Rattle.command.proofs.writing.vector_words.Reads as vector-words-reads
+use Rattle.command.proofs.writing.word1_of.Reads as word1-of-reads
+use Rattle.command.proofs.writing.word2_of.Reads as word2-of-reads
+use Rattle.command.proofs.writing.word3_of.Reads as word3-of-reads
+use Rattle.command.proofs.writing.word4_of.Reads as word4-of-reads
+
+motion-of-requires : tie.Need-motion-of-requires
+motion-of-requires c κs = search needs
+
+vector-words-requires : tie.Need-vector-words-requires
+vector-words-requires c κs = search needs
+
+word1-of-requires : tie.Need-word1-of-requires
+word1-of-requires c κs = search needs
+
+word2-of-requires : tie.Need-word2-of-requires
+word2-of-requires c κs = search needs
+
+word3-of-requires : tie.Need-word3-of-requires
+word3-of-requires c κs = search needs
+
+word4-of-requires : tie.Need-word4-of-requires
+word4-of-requires c κs = search needs
+
+array-read-t12 : tie.Need-array-read-t12
+array-read-t12 c = search needs
+
+array-read-t15 : tie.Need-array-read-t15
+array-read-t15 c = search needs
+
+array-read-t18 : tie.Need-array-read-t18
+array-read-t18 c = search needs
+
+array-read-t21 : tie.Need-array-read-t21
+array-read-t21 c = search needs
+
+returns : tie.Need-returns
+unfolding wordsOf
+returns c =
+    let v = c .before .before .before .before .vector-words in
+    let listed = subst (λ (ws : List ℕ). elements ws 0 4 ≡ ws) (sym (v .ensures)) (vectors-listed _) in
+    cc
+
+pub words-of-spec : {M : Type 1} → statement M
+words-of-spec =
+    tie.close
+    (tie.spec
+    motion-of-requires
+    vector-words-requires
+    word1-of-requires
+    word2-of-requires
+    word3-of-requires
+    word4-of-requires
+    array-read-t12
+    array-read-t15
+    array-read-t18
+    array-read-t21
+    returns)

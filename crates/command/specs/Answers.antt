@@ -1,0 +1,39 @@
+-- Answers in document 01's numbers and places, and rules that are judged together.
+use Prim.Native.Nat.{ℕ, zero, suc}
+use mathlib.Core.Bool.{Bool, cond, _&&_, _||_}
+use mathlib.Core.List.{List, [], _∷_}
+use lib.Dec.{eqb, ltb}
+use Rattle.command.specs.declared.Answer.{Answer}
+use Rattle.command.specs.declared.Answer.the-variants.{Accepted, Refused}
+
+-- Each case's number and place. Document 01: 0 is "accepted", with place 0.
+abbrev pub numberOf : Answer → ℕ
+numberOf Accepted = 0
+numberOf (Refused n p) = n
+
+abbrev pub placeOf : Answer → ℕ
+placeOf Accepted = 0
+placeOf (Refused n p) = p
+
+-- Of two answers the one that is given. Document 01: "words upwards, and in a word the smaller number first."
+abbrev pub earlier : Answer → Answer → Answer
+earlier Accepted b = b
+earlier (Refused n p) Accepted = Refused n p
+earlier (Refused n p) (Refused m q) = cond (ltb q p || (eqb q p && ltb m n)) (Refused m q) (Refused n p)
+
+-- A rule: the number and the place (a word of the command, a byte of the record) with which it refuses, and whether it holds.
+pub record Rule : Type 0 where
+  pub number : ℕ
+  pub place : ℕ
+  pub holds : Bool
+
+abbrev pub rule : ℕ → ℕ → Bool → Rule
+rule n p h = record { number = n; place = p; holds = h }
+
+abbrev pub answerBy : Rule → Answer
+answerBy r = cond (r .holds) Accepted (Refused (r .number) (r .place))
+
+-- What a table of rules answers, in whichever order it lists them.
+abbrev pub judged : List Rule → Answer
+judged [] = Accepted
+judged (r ∷ rs) = earlier (answerBy r) (judged rs)

@@ -1,0 +1,5 @@
+pub mod Answers
+pub mod Cases
+pub mod Headers
+pub mod Macroblocks
+pub mod Rules

@@ -1,0 +1,107 @@
+-- The words of a MACROBLOCK command, read and written.
+use Prim.Native.Nat.{ℕ}
+use mathlib.Core.Bool.{Bool, true, false, cond}
+use mathlib.Core.List.{List, [], _∷_}
+use lib.Dec.{eqb}
+use lib.ListN.{getD}
+use Rattle.fields.specs.Word.{bits, field, packed}
+use Rattle.command.specs.Headers.{macroblockHeader}
+use Rattle.command.specs.Cases.{motion, motionOf, caseOf, vectorWords}
+use Rattle.command.specs.declared.Case.{Case}
+use Rattle.command.specs.declared.Case.the-variants.{Intra, Inter}
+use Rattle.command.specs.declared.Flags.{Flags}
+use Rattle.command.specs.declared.Macroblock.{Macroblock}
+use Rattle.command.specs.declared.Motion.{Motion}
+
+-- A word of a command by its number from the header, which is 0. A word that is not there counts as 0.
+abbrev pub wordAt : List ℕ → ℕ → ℕ
+wordAt ws i = getD ws i 0
+
+-- A bit as a flag, and a flag as a bit.
+abbrev pub isSet : ℕ → Bool
+isSet b = eqb b 1
+
+abbrev pub flag : Bool → ℕ
+flag true = 1
+flag false = 0
+
+abbrev pub isIntra : Case → Bool
+isIntra Intra = true
+isIntra (Inter p) = false
+
+-- Word 1: "13 intra; 12:8 type"; "Intra: type 1Ah .. Inter: 1 forward, 2 backward, 3 both."
+abbrev pub intraType : ℕ
+intraType = 0x1A
+
+abbrev pub kindIn : ℕ → ℕ
+kindIn word1 = cond (isSet (bits word1 13 13)) 0 (bits word1 12 8)
+
+abbrev pub typeOf : ℕ → ℕ
+typeOf kind = cond (eqb kind 0) intraType kind
+
+-- The kind of a command and the words that hold its vectors: "5 forward vector, 6 backward".
+abbrev pub motionIn : List ℕ → Motion
+motionIn ws = motion (kindIn (wordAt ws 1)) (wordAt ws 5) (wordAt ws 6)
+
+-- Word 4: "31 last in slice, 30 first in slice, 27 clamp, 26 last in group, 25 no skip conversion .. 24 first in group".
+abbrev pub flagsIn : ℕ → Flags
+flagsIn word4 =
+    record {
+      «first_in_slice» = isSet (bits word4 30 30);
+      «last_in_slice» = isSet (bits word4 31 31);
+      «first_in_group» = isSet (bits word4 24 24);
+      «last_in_group» = isSet (bits word4 26 26);
+      clamp = isSet (bits word4 27 27);
+      «no_skip_conversion» = isSet (bits word4 25 25);
+    }
+
+-- The macroblock of words 1 to 4 and a case.
+abbrev pub assembled : ℕ → ℕ → ℕ → ℕ → Case → Macroblock
+assembled w1 w2 w3 w4 case =
+    record {
+      column = bits w2 15 0;
+      row = bits w2 31 16;
+      upper = bits w1 31 16;
+      case = case;
+      skip = isSet (bits w1 2 2);
+      pattern = bits w3 11 6;
+      «max_size» = bits w3 31 24;
+      «target_size» = bits w3 23 16;
+      quantiser = bits w4 4 0;
+      flags = flagsIn w4;
+    }
+
+-- The macroblock of a command's words.
+unfoldable pub macroblockOf : List ℕ → Macroblock
+macroblockOf ws = assembled (wordAt ws 1) (wordAt ws 2) (wordAt ws 3) (wordAt ws 4) (caseOf (motionIn ws))
+
+-- The words of a macroblock's command.
+abbrev pub word1 : Macroblock → ℕ
+word1 m =
+    packed
+    (field 31 16 (m .upper)
+    ∷ field 13 13 (flag (isIntra (m .case)))
+    ∷ field 12 8 (typeOf (motionOf (m .case) .kind))
+    ∷ field 2 2 (flag (m .skip))
+    ∷ [])
+
+abbrev pub word2 : Macroblock → ℕ
+word2 m = packed (field 31 16 (m .row) ∷ field 15 0 (m .column) ∷ [])
+
+abbrev pub word3 : Macroblock → ℕ
+word3 m = packed (field 31 24 (m .«max_size») ∷ field 23 16 (m .«target_size») ∷ field 11 6 (m .pattern) ∷ [])
+
+abbrev pub word4 : Macroblock → ℕ
+word4 m =
+    packed
+    (field 31 31 (flag (m .flags .«last_in_slice»))
+    ∷ field 30 30 (flag (m .flags .«first_in_slice»))
+    ∷ field 27 27 (flag (m .flags .clamp))
+    ∷ field 26 26 (flag (m .flags .«last_in_group»))
+    ∷ field 25 25 (flag (m .flags .«no_skip_conversion»))
+    ∷ field 24 24 (flag (m .flags .«first_in_group»))
+    ∷ field 4 0 (m .quantiser)
+    ∷ [])
+
+unfoldable pub wordsOf : Macroblock → List ℕ
+wordsOf m = macroblockHeader ∷ word1 m ∷ word2 m ∷ word3 m ∷ word4 m ∷ vectorWords (motionOf (m .case))

@@ -1,0 +1,85 @@
+// Commands: what a word begins, and the words of a MACROBLOCK command.
+mod answers;
+mod cases;
+mod headers;
+mod reading;
+mod rules;
+mod writing;
+
+pub use answers::earlier;
+pub use cases::case_of;
+pub use cases::motion_of;
+pub use headers::read_header;
+use prediction::Vector;
+pub use reading::macroblock_of;
+pub use rules::fault_of;
+pub use writing::words_of;
+
+// The commands that have rules of their own.
+pub enum Opcode {
+    Noop,
+    End,
+    Surface,
+    Picture,
+    SliceGroup,
+    Macroblock,
+}
+
+// What a word begins: a known command or a carried one (document 01's term for those that only have a length), each with its
+// count of words, or no command.
+pub enum Header {
+    Known(Opcode, usize),
+    Carried(usize),
+    Unknown,
+}
+
+// What an inter macroblock is predicted from, with the vectors that it has and no others.
+pub enum Prediction {
+    Forward(Vector),
+    Backward(Vector),
+    Both(Vector, Vector),
+}
+
+// How a macroblock is coded.
+pub enum Case {
+    Intra,
+    Inter(Prediction),
+}
+
+// A case as numbers: its kind (0 intra, 1 forward, 2 backward, 3 both) and its vectors' words, 0 where there is none.
+pub struct Motion {
+    pub kind: u8,
+    pub forward: u32,
+    pub backward: u32,
+}
+
+// The flags of a macroblock, in the order of the log record's bits.
+pub struct Flags {
+    pub first_in_slice: bool,
+    pub last_in_slice: bool,
+    pub first_in_group: bool,
+    pub last_in_group: bool,
+    pub clamp: bool,
+    pub no_skip_conversion: bool,
+}
+
+// A macroblock. Its command and its log record are two ways to write it down. The upper half of word 1 has no rule and is
+// kept as it is (document 01's carried half).
+pub struct Macroblock {
+    pub column: u16,
+    pub row: u16,
+    pub upper: u16,
+    pub case: Case,
+    pub skip: bool,
+    pub pattern: u8,
+    pub max_size: u8,
+    pub target_size: u8,
+    pub quantiser: u8,
+    pub flags: Flags,
+}
+
+// Accepted, or refused with document 01's number and place.
+pub enum Answer {
+    Accepted,
+    Refused(u8, u64),
+}

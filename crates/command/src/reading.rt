@@ -1,0 +1,91 @@
+// Reading the words of a MACROBLOCK command.
+use crate::Case;
+use crate::Flags;
+use crate::Macroblock;
+use crate::Motion;
+use crate::cases;
+ghost use mathlib.Core.Path.{_≡_};
+ghost use Rattle.fields.specs.Word.{bits};
+ghost use Rattle.command.specs.Macroblocks.{wordAt, isSet, kindIn, flagsIn, motionIn, assembled, macroblockOf};
+
+// A word of a command, 0 where there is none.
+pub(crate) fn word_at(words: &[u32], i: usize) -> u32
+    ensures { λ r. ⌜ r ≡ wordAt (now (words .entry)) i ⌝ }
+{
+    if i < words.len() { words[i] } else { 0 }
+}
+
+// Whether a bit of a word is 1.
+pub(crate) fn is_set(word: u32, bit: u8) -> bool
+    ensures { λ r. ⌜ r ≡ isSet (bits word bit bit) ⌝ }
+{
+    fields::bits(word, bit, bit) == 1
+}
+
+// The kind that word 1 gives, a number that is no kind among them.
+fn kind_in(word1: u32) -> u8
+    ensures { λ r. ⌜ r ≡ kindIn word1 ⌝ }
+{
+    if is_set(word1, 13) {
+        return 0;
+    }
+    fields::bits(word1, 12, 8) as u8
+}
+
+// The kind and the words that hold the vectors.
+pub(crate) fn motion_in(words: &[u32]) -> Motion
+    ensures { λ r. ⌜ r ≡ motionIn (now (words .entry)) ⌝ }
+{
+    let kind = kind_in(word_at(words, 1));
+    let forward = word_at(words, 5);
+    let backward = word_at(words, 6);
+    Motion {
+        kind,
+        forward,
+        backward,
+    }
+}
+
+fn flags_in(word4: u32) -> Flags
+    ensures { λ r. ⌜ r ≡ flagsIn word4 ⌝ }
+{
+    Flags {
+        first_in_slice: is_set(word4, 30),
+        last_in_slice: is_set(word4, 31),
+        first_in_group: is_set(word4, 24),
+        last_in_group: is_set(word4, 26),
+        clamp: is_set(word4, 27),
+        no_skip_conversion: is_set(word4, 25),
+    }
+}
+
+// The macroblock of words 1 to 4 and a case.
+fn assembled(one: u32, two: u32, three: u32, four: u32, case: Case) -> Macroblock
+    ensures { λ r. ⌜ r ≡ assembled one two three four case ⌝ }
+{
+    let flags = flags_in(four);
+    Macroblock {
+        column: fields::bits(two, 15, 0) as u16,
+        row: fields::bits(two, 31, 16) as u16,
+        upper: fields::bits(one, 31, 16) as u16,
+        case,
+        skip: is_set(one, 2),
+        pattern: fields::bits(three, 11, 6) as u8,
+        max_size: fields::bits(three, 31, 24) as u8,
+        target_size: fields::bits(three, 23, 16) as u8,
+        quantiser: fields::bits(four, 4, 0) as u8,
+        flags,
+    }
+}
+
+// The macroblock of a command's words, legal or not.
+pub fn macroblock_of(words: &[u32]) -> Macroblock
+    ensures { λ r. ⌜ r ≡ macroblockOf (now (words .entry)) ⌝ }
+{
+    let case = cases::case_of(motion_in(words));
+    let one = word_at(words, 1);
+    let two = word_at(words, 2);
+    let three = word_at(words, 3);
+    let four = word_at(words, 4);
+    assembled(one, two, three, four, case)
+}

@@ -1,0 +1,106 @@
+// Writing the words of a MACROBLOCK command.
+use crate::Macroblock;
+use crate::Motion;
+use crate::cases;
+ghost use mathlib.Core.Path.{_≡_};
+ghost use Rattle.command.specs.Cases.{vectorWords};
+ghost use Rattle.command.specs.Macroblocks.{flag, typeOf, word1, word2, word3, word4, wordsOf};
+
+fn flag_of(set: bool) -> u32
+    ensures { λ r. ⌜ r ≡ flag set ⌝ }
+{
+    if set { 1 } else { 0 }
+}
+
+// Words 5 to 8.
+pub(crate) fn vector_words(motion: Motion) -> [u32; 4]
+    ensures { λ r. ⌜ r ≡ vectorWords motion ⌝ }
+{
+    let kind = motion.kind;
+    let forward = motion.forward;
+    let backward = motion.backward;
+    match kind {
+        1 => [forward, forward, forward, forward],
+        2 => [backward, backward, backward, backward],
+        3 => [forward, backward, forward, backward],
+        _ => [0, 0, 0, 0],
+    }
+}
+
+// The type in word 1.
+fn type_of(kind: u8) -> u32
+    ensures { λ r. ⌜ r ≡ typeOf kind ⌝ }
+{
+    if kind == 0 {
+        return 0x1a;
+    }
+    kind as u32
+}
+
+fn word1_of(macroblock: Macroblock) -> u32
+    ensures { λ r. ⌜ r ≡ word1 macroblock ⌝ }
+{
+    let case = macroblock.case;
+    let motion = cases::motion_of(case);
+    let skip = flag_of(macroblock.skip);
+    let kind = type_of(motion.kind);
+    let intra = flag_of(cases::is_intra(case));
+    let upper = macroblock.upper as u32;
+    let to2 = fields::with_bits(0, 2, 2, skip);
+    let to12 = fields::with_bits(to2, 12, 8, kind);
+    let to13 = fields::with_bits(to12, 13, 13, intra);
+    fields::with_bits(to13, 31, 16, upper)
+}
+
+fn word2_of(macroblock: Macroblock) -> u32
+    ensures { λ r. ⌜ r ≡ word2 macroblock ⌝ }
+{
+    let column = macroblock.column as u32;
+    let row = macroblock.row as u32;
+    let to15 = fields::with_bits(0, 15, 0, column);
+    fields::with_bits(to15, 31, 16, row)
+}
+
+fn word3_of(macroblock: Macroblock) -> u32
+    ensures { λ r. ⌜ r ≡ word3 macroblock ⌝ }
+{
+    let pattern = macroblock.pattern as u32;
+    let target_size = macroblock.target_size as u32;
+    let max_size = macroblock.max_size as u32;
+    let to11 = fields::with_bits(0, 11, 6, pattern);
+    let to23 = fields::with_bits(to11, 23, 16, target_size);
+    fields::with_bits(to23, 31, 24, max_size)
+}
+
+fn word4_of(macroblock: Macroblock) -> u32
+    ensures { λ r. ⌜ r ≡ word4 macroblock ⌝ }
+{
+    let quantiser = macroblock.quantiser as u32;
+    let flags = macroblock.flags;
+    let to4 = fields::with_bits(0, 4, 0, quantiser);
+    let to24 = fields::with_bits(to4, 24, 24, flag_of(flags.first_in_group));
+    let to25 = fields::with_bits(to24, 25, 25, flag_of(flags.no_skip_conversion));
+    let to26 = fields::with_bits(to25, 26, 26, flag_of(flags.last_in_group));
+    let to27 = fields::with_bits(to26, 27, 27, flag_of(flags.clamp));
+    let to30 = fields::with_bits(to27, 30, 30, flag_of(flags.first_in_slice));
+    fields::with_bits(to30, 31, 31, flag_of(flags.last_in_slice))
+}
+
+// The nine words of a macroblock's command.
+pub fn words_of(macroblock: Macroblock) -> [u32; 9]
+    ensures { λ r. ⌜ r ≡ wordsOf macroblock ⌝ }
+{
+    let case = macroblock.case;
+    let vectors = vector_words(cases::motion_of(case));
+    [
+        0x7349_0007,
+        word1_of(macroblock),
+        word2_of(macroblock),
+        word3_of(macroblock),
+        word4_of(macroblock),
+        vectors[0],
+        vectors[1],
+        vectors[2],
+        vectors[3],
+    ]
+}

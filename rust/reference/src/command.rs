@@ -1,0 +1,268 @@
+//! Document 01's commands one at a time: what a word begins, and one MACROBLOCK command read alone.
+
+use crate::leaf::{bits, with_bits};
+
+pub const MACROBLOCK: u32 = 0x7349_0007;
+
+/// "Words that begin a command": header, name, words.
+pub const COMMANDS: [(u32, &str, usize); 12] = [
+    (0x0000_0000, "NOOP", 1),
+    (0x0500_0000, "END", 1),
+    (0x7001_0004, "SURFACE", 6),
+    (0x7300_000B, "PICTURE", 13),
+    (0x7343_0006, "SLICEGROUP", 8),
+    (MACROBLOCK, "MACROBLOCK", 9),
+    (0x7000_0003, "carried", 5),
+    (0x7002_003B, "carried", 61),
+    (0x7003_0018, "carried", 26),
+    (0x7004_0008, "carried", 10),
+    (0x7007_0010, "carried", 18),
+    (0x7008_0020, "carried", 34),
+];
+
+/// "The whole header must match": the command's name and its words, or none.
+pub fn header(word: u32) -> Option<(&'static str, usize)> {
+    COMMANDS.iter().find(|command| command.0 == word).map(|&(_, name, words)| (name, words))
+}
+
+/// A MACROBLOCK command, header and all.
+pub type Command = [u32; 9];
+/// The log record of one macroblock.
+pub type Record = [u8; 24];
+/// Number and place.
+pub type Answer = (u8, usize);
+
+/// Bits hi:lo of a word of the command.
+#[derive(Clone, Copy)]
+pub struct Field {
+    pub word: usize,
+    pub hi: u8,
+    pub lo: u8,
+}
+
+const fn field(word: usize, hi: u8, lo: u8) -> Field {
+    Field { word, hi, lo }
+}
+
+impl Field {
+    pub fn of(self, c: &Command) -> u32 {
+        bits(c[self.word], self.hi, self.lo)
+    }
+
+    pub fn set(self, c: &mut Command, value: u32) {
+        c[self.word] = with_bits(c[self.word], self.hi, self.lo, value);
+    }
+}
+
+pub const CARRIED: Field = field(1, 31, 16);
+pub const INTRA: Field = field(1, 13, 13);
+pub const TYPE: Field = field(1, 12, 8);
+pub const SKIP: Field = field(1, 2, 2);
+pub const ROW: Field = field(2, 31, 16);
+pub const COLUMN: Field = field(2, 15, 0);
+pub const MAXIMUM: Field = field(3, 31, 24);
+pub const TARGET: Field = field(3, 23, 16);
+pub const PATTERN: Field = field(3, 11, 6);
+pub const LAST_IN_SLICE: Field = field(4, 31, 31);
+pub const FIRST_IN_SLICE: Field = field(4, 30, 30);
+pub const CLAMP: Field = field(4, 27, 27);
+pub const LAST_IN_GROUP: Field = field(4, 26, 26);
+pub const NO_CONVERSION: Field = field(4, 25, 25);
+pub const FIRST_IN_GROUP: Field = field(4, 24, 24);
+pub const QUANTISER: Field = field(4, 4, 0);
+
+/// Record byte 12, "flags, bits 0 to 5: first slice, last slice, first group, last group, clamp, no conversion".
+pub const FLAGS: [Field; 6] = [FIRST_IN_SLICE, LAST_IN_SLICE, FIRST_IN_GROUP, LAST_IN_GROUP, CLAMP, NO_CONVERSION];
+
+/// The bits that must be zero in every command: "15, 14, 7:3 zero", "1:0 zero"; "15:12 zero", "5:0 zero"; "all else zero".
+const ZERO_1: [Field; 4] = [field(1, 15, 15), field(1, 14, 14), field(1, 7, 3), field(1, 1, 0)];
+const ZERO_3: [Field; 2] = [field(3, 15, 12), field(3, 5, 0)];
+const ZERO_4: [Field; 2] = [field(4, 29, 28), field(4, 23, 5)];
+
+/// "Intra: type 1Ah", "Inter: 1 forward, 2 backward, 3 both", as the record's kind.
+fn kind(c: &Command) -> Option<u8> {
+    match (INTRA.of(c), TYPE.of(c)) {
+        (1, 0x1a) => Some(0),
+        (0, inter @ 1..=3) => Some(inter as u8),
+        _ => None,
+    }
+}
+
+/// Words 5 to 8 as they must be. "A missing vector is a copy: intra, all zero; forward only or backward only, all four
+/// equal; both, 7 = 5 and 8 = 6." What is there and not missing is the word itself.
+fn vectors_due(c: &Command) -> [u32; 4] {
+    let (forward, backward) = (c[5], c[6]);
+    match kind(c) {
+        Some(0) => [0; 4],
+        Some(1) => [forward; 4],
+        Some(2) => [backward; 4],
+        _ => [forward, backward, forward, backward],
+    }
+}
+
+/// Place and number of every rule that a command read alone keeps past its header, and whether this one keeps it.
+fn rules(c: &Command) -> [(usize, u8, bool); 13] {
+    let zero = |fields: &[Field]| fields.iter().all(|f| f.of(c) == 0);
+    let (intra, skip, pattern) = (INTRA.of(c) == 1, SKIP.of(c) == 1, PATTERN.of(c));
+    let due = vectors_due(c);
+    [
+        (1, 4, zero(&ZERO_1)),
+        (1, 5, kind(c).is_some()),
+        // "Intra: type 1Ah, skip zero."
+        (1, 5, !(intra && skip)),
+        // "Skip: neither first nor last in slice (bits 30 and 31 of word 4 zero); pattern zero"
+        (1, 11, !skip || zero(&[FIRST_IN_SLICE, LAST_IN_SLICE])),
+        (1, 11, !skip || pattern == 0),
+        (3, 4, zero(&ZERO_3)),
+        // "Intra: pattern 63."
+        (3, 5, !intra || pattern == 63),
+        (4, 4, zero(&ZERO_4)),
+        // "quantiser 1 to 31"
+        (4, 5, QUANTISER.of(c) != 0),
+        (5, 8, c[5] == due[0]),
+        (6, 8, c[6] == due[1]),
+        (7, 8, c[7] == due[2]),
+        (8, 8, c[8] == due[3]),
+    ]
+}
+
+/// The record of a command that keeps every rule.
+fn record(c: &Command) -> Option<Record> {
+    let kind = kind(c)?;
+    let half = |f: Field| (f.of(c) as u16).to_le_bytes();
+    let byte = |f: Field| f.of(c) as u8;
+    let mut r = [0; 24];
+    r[0..2].copy_from_slice(&half(COLUMN));
+    r[2..4].copy_from_slice(&half(ROW));
+    r[4..6].copy_from_slice(&half(CARRIED));
+    r[6] = kind;
+    r[7] = byte(SKIP);
+    r[8] = byte(PATTERN);
+    r[9] = byte(MAXIMUM);
+    r[10] = byte(TARGET);
+    r[11] = byte(QUANTISER);
+    r[12] = (0..6).map(|bit| byte(FLAGS[bit]) << bit).sum();
+    // "16 forward x, 18 forward y, 20 backward x, 22 backward y, zero when absent"; x is the low half of a vector's word
+    if kind == 1 || kind == 3 {
+        r[16..20].copy_from_slice(&c[5].to_le_bytes());
+    }
+    if kind == 2 || kind == 3 {
+        r[20..24].copy_from_slice(&c[6].to_le_bytes());
+    }
+    Some(r)
+}
+
+/// The record that one command read alone gives, or the refusal. "An empty run gets 1 at 0, any header but MACROBLOCK's
+/// gets 2, and words after the ninth aren't read"; "2, then 1, [...] then words upwards, and in a word the smaller number
+/// first", which is the least place and number of all the rules not kept.
+pub fn record_of(words: &[u32]) -> Result<Record, Answer> {
+    let first = *words.first().ok_or((1, 0))?;
+    let Some(("MACROBLOCK", count)) = header(first) else { return Err((2, 0)) };
+    let c: &Command = words.get(..count).ok_or((1, words.len()))?.try_into().unwrap();
+    match rules(c).into_iter().filter(|rule| !rule.2).map(|(place, number, _)| (place, number)).min() {
+        Some((place, number)) => Err((number, place)),
+        None => Ok(record(c).unwrap()),
+    }
+}
+
+/// One command read alone, its record put into the lent bytes. "14 follows all these."
+pub fn read_alone(words: &[u32], lent: &mut [u8]) -> Answer {
+    match record_of(words) {
+        Err(refusal) => refusal,
+        Ok(_) if lent.len() < 24 => (14, 24),
+        Ok(record) => {
+            lent[..24].copy_from_slice(&record);
+            (0, 0)
+        }
+    }
+}
+
+#[cfg(test)]
+mod tests {
+    use super::*;
+
+    /// "31:29 = 3, 28:27 = 2, [...] the low bits hold total words less 2", NOOP and END apart.
+    #[test]
+    fn headers_name_their_words() {
+        for (word, name, words) in &COMMANDS[2..] {
+            assert_eq!((bits(*word, 31, 29), bits(*word, 28, 27)), (3, 2), "{name}");
+            assert_eq!(bits(*word, 15, 0) as usize + 2, *words, "{name} {word:08x}");
+        }
+        assert_eq!(header(0x7349_0006), None);
+    }
+
+    /// Every bit of words 1 to 4 belongs to one field or must be zero.
+    #[test]
+    fn fields_fill_the_words() {
+        let mut seen = [0u32; 9];
+        let named = [CARRIED, INTRA, TYPE, SKIP, ROW, COLUMN, MAXIMUM, TARGET, PATTERN, QUANTISER];
+        for f in named.iter().chain(&FLAGS).chain(&ZERO_1).chain(&ZERO_3).chain(&ZERO_4) {
+            assert_eq!(f.of(&seen), 0);
+            f.set(&mut seen, u32::MAX);
+        }
+        assert_eq!(seen[1..5], [u32::MAX; 4]);
+    }
+
+    /// P1's macroblock, and P6 and P7, which break it.
+    #[test]
+    fn document_01() {
+        let p1 = [0x7349_0007, 0x0000_3a00, 0, 0xfc0, 0xc500_0001, 0, 0, 0, 0];
+        let mut lent = [0xee; 26];
+        assert_eq!(read_alone(&p1, &mut lent), (0, 0));
+        assert_eq!(lent[..13], [0, 0, 0, 0, 0, 0, 0, 0, 0x3f, 0, 0, 1, 0x0f]);
+        assert_eq!(lent[13..], [0, 0, 0, 0, 0, 0, 0, 0, 0, 0, 0, 0xee, 0xee]);
+        let mut p6 = p1;
+        p6[5] = 1;
+        assert_eq!(record_of(&p6), Err((8, 5)));
+        let mut p7 = p1;
+        p7[4] = 0xc500_0000;
+        assert_eq!(record_of(&p7), Err((5, 4)));
+    }
+
+    /// One of words 5 to 8 changed in a bit, for each kind: the place is the lowest missing vector that is not its copy.
+    #[test]
+    fn missing_vectors() {
+        let both = [0x0007_fffd, 0xfffe_0005];
+        let kinds = [(0x3a00, [0, 0], [5, 6, 7, 8]), (0x100, [both[0]; 2], [6, 6, 7, 8]), (0x200, [both[1]; 2], [5, 5, 7, 8])];
+        for (word_1, [five, six], places) in kinds.into_iter().chain([(0x300, both, [7, 8, 7, 8])]) {
+            let c = [0x7349_0007, word_1, 0, 0xfc0, 1, five, six, five, six];
+            assert!(record_of(&c).is_ok());
+            for (broken, place) in (5..9).zip(places) {
+                let mut c = c;
+                c[broken] ^= 0x8000;
+                assert_eq!(record_of(&c), Err((8, place)), "{word_1:x} {broken}");
+            }
+        }
+    }
+
+    /// "Words upwards, and in a word the smaller number first": faults are mended one by one, the reported one each time.
+    #[test]
+    fn order() {
+        let mut c = [0x7349_0007, 0x0000_2107, 0, 0x0000_1fc1, 0xd000_0020, 1, 2, 3, 4];
+        let mut mended = |word: usize, value: u32| {
+            c[word] = value;
+            record_of(&c).map_err(|(number, place)| (place, number))
+        };
+        assert_eq!(mended(1, 0x0000_2107), Err((1, 4)));
+        assert_eq!(mended(1, 0x0000_2104), Err((1, 5)));
+        assert_eq!(mended(1, 0x0000_0104), Err((1, 11)));
+        assert_eq!(mended(4, 0x1000_0020), Err((1, 11)));
+        assert_eq!(mended(3, 0x0000_1001), Err((3, 4)));
+        assert_eq!(mended(1, 0x0000_3a00), Err((3, 4)));
+        assert_eq!(mended(3, 0x0000_0f80), Err((3, 5)));
+        assert_eq!(mended(3, 0x0000_0fc0), Err((4, 4)));
+        assert_eq!(mended(4, 0x0000_0000), Err((4, 5)));
+        assert_eq!(mended(4, 0x0000_001f), Err((5, 8)));
+    }
+
+    /// "14 follows all these", and no refusal writes.
+    #[test]
+    fn refusals_write_nothing() {
+        let faulty = [0x7349_0007, 0x0000_3a00, 0, 0xfc0, 0xc500_0000, 0, 0, 0, 0];
+        let legal = [0x7349_0007, 0x0000_3a00, 0, 0xfc0, 0xc500_0001, 0, 0, 0, 0];
+        let mut lent = [7; 23];
+        assert_eq!(read_alone(&faulty, &mut lent), (5, 4));
+        assert_eq!(read_alone(&legal, &mut lent), (14, 24));
+        assert_eq!(lent, [7; 23]);
+    }
+}
