@@ -202,3 +202,11 @@ all-hold (r ∷ rs) e = let h = both-accepted (r .holds) (judged rs) e in (h .0,
 pub none-broken : (rs : List Rule) → Hold rs → judged rs ≡ Accepted
 none-broken [] h = refl
 none-broken (r ∷ rs) h = simp (h .0) (none-broken rs (h .1))
+
+pub hold-both : (rs ss : List Rule) → Hold rs → Hold ss → Hold (rs ++ ss)
+hold-both [] ss h k = k
+hold-both (r ∷ rs) ss h k = (h .0, hold-both rs ss (h .1) k)
+
+pub hold-each : (rs ss : List Rule) → Hold (rs ++ ss) → Hold rs × Hold ss
+hold-each [] ss h = (tt, h)
+hold-each (r ∷ rs) ss h = let k = hold-each rs ss (h .1) in ((h .0, k .0), k .1)

@@ -1,3 +1,4 @@
 -- for the crates above
 pub mod CaseLaws
+pub mod CommandLaws
 pub mod Judging

@@ -1,5 +1,6 @@
 pub mod Answers
 pub mod Cases
 pub mod Headers
+pub mod Legal
 pub mod Macroblocks
 pub mod Rules

@@ -4,7 +4,7 @@ use mathlib.Core.Bool.{Bool, true, false, cond}
 use mathlib.Core.List.{List, [], _∷_}
 use lib.Dec.{eqb}
 use lib.ListN.{getD}
-use Rattle.fields.specs.Word.{bits, field, packed}
+use Rattle.fields.specs.Word.{Field, bits, field, packed}
 use Rattle.command.specs.Headers.{macroblockHeader}
 use Rattle.command.specs.Cases.{motion, motionOf, caseOf, vectorWords}
 use Rattle.command.specs.declared.Case.{Case}
@@ -75,33 +75,38 @@ assembled w1 w2 w3 w4 case =
 unfoldable pub macroblockOf : List ℕ → Macroblock
 macroblockOf ws = assembled (wordAt ws 1) (wordAt ws 2) (wordAt ws 3) (wordAt ws 4) (caseOf (motionIn ws))
 
--- The words of a macroblock's command.
-abbrev pub word1 : Macroblock → ℕ
-word1 m =
-    packed
-    (field 31 16 (m .upper)
+-- The fields of words 1 to 4; every other bit is zero.
+abbrev pub fields1 : Macroblock → List Field
+fields1 m =
+    field 31 16 (m .upper)
     ∷ field 13 13 (flag (isIntra (m .case)))
     ∷ field 12 8 (typeOf (motionOf (m .case) .kind))
     ∷ field 2 2 (flag (m .skip))
-    ∷ [])
+    ∷ []
 
-abbrev pub word2 : Macroblock → ℕ
-word2 m = packed (field 31 16 (m .row) ∷ field 15 0 (m .column) ∷ [])
+abbrev pub fields2 : Macroblock → List Field
+fields2 m = field 31 16 (m .row) ∷ field 15 0 (m .column) ∷ []
 
-abbrev pub word3 : Macroblock → ℕ
-word3 m = packed (field 31 24 (m .«max_size») ∷ field 23 16 (m .«target_size») ∷ field 11 6 (m .pattern) ∷ [])
+abbrev pub fields3 : Macroblock → List Field
+fields3 m = field 31 24 (m .«max_size») ∷ field 23 16 (m .«target_size») ∷ field 11 6 (m .pattern) ∷ []
 
-abbrev pub word4 : Macroblock → ℕ
-word4 m =
-    packed
-    (field 31 31 (flag (m .flags .«last_in_slice»))
+abbrev pub fields4 : Macroblock → List Field
+fields4 m =
+    field 31 31 (flag (m .flags .«last_in_slice»))
     ∷ field 30 30 (flag (m .flags .«first_in_slice»))
     ∷ field 27 27 (flag (m .flags .clamp))
     ∷ field 26 26 (flag (m .flags .«last_in_group»))
     ∷ field 25 25 (flag (m .flags .«no_skip_conversion»))
     ∷ field 24 24 (flag (m .flags .«first_in_group»))
     ∷ field 4 0 (m .quantiser)
-    ∷ [])
+    ∷ []
 
+-- The words of a macroblock's command.
 unfoldable pub wordsOf : Macroblock → List ℕ
-wordsOf m = macroblockHeader ∷ word1 m ∷ word2 m ∷ word3 m ∷ word4 m ∷ vectorWords (motionOf (m .case))
+wordsOf m =
+    macroblockHeader
+    ∷ packed (fields1 m)
+    ∷ packed (fields2 m)
+    ∷ packed (fields3 m)
+    ∷ packed (fields4 m)
+    ∷ vectorWords (motionOf (m .case))

@@ -30,8 +30,8 @@ abbrev pub skipPattern : Macroblock → Bool
 skipPattern m = not (m .skip) || eqb (m .pattern) 0
 
 -- Rules of the words.
-abbrev pub zero : ℕ → ℕ → ℕ → Bool
-zero word hi lo = eqb (bits word hi lo) 0
+abbrev pub zeroBits : ℕ → ℕ → ℕ → Bool
+zeroBits word hi lo = eqb (bits word hi lo) 0
 
 -- Word 1: "Intra: type 1Ah .. Inter: 1 forward, 2 backward, 3 both."
 abbrev pub typePermitted : ℕ → Bool
@@ -42,8 +42,8 @@ typePermitted w = cond (isSet (bits w 13 13)) (eqb (bits w 12 8) intraType) (leb
 -- Word 1: "15, 14, 7:3 zero .. 1:0 zero"
 unfoldable pub word1Rules : ℕ → Macroblock → List Rule
 word1Rules w m =
-    rule 4 1 (zero w 15 14)
-    ∷ rule 4 1 (zero w 7 3 && zero w 1 0)
+    rule 4 1 (zeroBits w 15 14)
+    ∷ rule 4 1 (zeroBits w 7 3 && zeroBits w 1 0)
     ∷ rule 5 1 (typePermitted w)
     ∷ rule 5 1 (intraNotSkipped m)
     ∷ rule 11 1 (skipInsideSlice m)
@@ -53,14 +53,14 @@ word1Rules w m =
 -- Word 3: "15:12 zero, pattern 11:6, 5:0 zero"
 unfoldable pub word3Rules : ℕ → Macroblock → List Rule
 word3Rules w m =
-    rule 4 3 (zero w 15 12 && zero w 5 0)
+    rule 4 3 (zeroBits w 15 12 && zeroBits w 5 0)
     ∷ rule 5 3 (intraPattern m)
     ∷ []
 
 -- Word 4: "all else zero"
 unfoldable pub word4Rules : ℕ → Macroblock → List Rule
 word4Rules w m =
-    rule 4 4 (zero w 29 28 && zero w 23 5)
+    rule 4 4 (zeroBits w 29 28 && zeroBits w 23 5)
     ∷ rule 5 4 (quantiserPermitted m)
     ∷ []
 

@@ -8,11 +8,11 @@ use crate::writing;
 ghost use mathlib.Core.Path.{_≡_};
 ghost use mathlib.Core.Bool.{_&&_};
 ghost use Rattle.command.specs.Answers.{judged};
-ghost use Rattle.command.specs.Rules.{intraNotSkipped, intraPattern, quantiserPermitted, skipInsideSlice, skipPattern, zero, typePermitted, word1Rules, word3Rules, word4Rules, vectorRules, commandRules};
+ghost use Rattle.command.specs.Rules.{intraNotSkipped, intraPattern, quantiserPermitted, skipInsideSlice, skipPattern, zeroBits, typePermitted, word1Rules, word3Rules, word4Rules, vectorRules, commandRules};
 
 // Whether bits hi:lo are zero.
-fn zero(word: u32, hi: u8, lo: u8) -> bool
-    ensures { λ r. ⌜ r ≡ zero word hi lo ⌝ }
+fn zero_bits(word: u32, hi: u8, lo: u8) -> bool
+    ensures { λ r. ⌜ r ≡ zeroBits word hi lo ⌝ }
 {
     fields::bits(word, hi, lo) == 0
 }
@@ -69,12 +69,12 @@ fn skip_pattern(macroblock: Macroblock) -> bool
 
 // Whether two runs of bits are zero.
 fn both_zero(word: u32, hi: u8, lo: u8, h: u8, l: u8) -> bool
-    ensures { λ r. ⌜ r ≡ (zero word hi lo && zero word h l) ⌝ }
+    ensures { λ r. ⌜ r ≡ (zeroBits word hi lo && zeroBits word h l) ⌝ }
 {
-    if !zero(word, hi, lo) {
+    if !zero_bits(word, hi, lo) {
         return false;
     }
-    zero(word, h, l)
+    zero_bits(word, h, l)
 }
 
 fn type_permitted(word: u32) -> bool
@@ -93,7 +93,7 @@ fn type_permitted(word: u32) -> bool
 fn word1_fault(word: u32, macroblock: Macroblock) -> Answer
     ensures { λ r. ⌜ r ≡ judged (word1Rules word macroblock) ⌝ }
 {
-    if !zero(word, 15, 14) {
+    if !zero_bits(word, 15, 14) {
         return Answer::Refused(4, 1);
     }
     if !both_zero(word, 7, 3, 1, 0) {

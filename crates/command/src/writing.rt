@@ -3,8 +3,9 @@ use crate::Macroblock;
 use crate::Motion;
 use crate::cases;
 ghost use mathlib.Core.Path.{_≡_};
+ghost use Rattle.fields.specs.Word.{packed};
 ghost use Rattle.command.specs.Cases.{vectorWords};
-ghost use Rattle.command.specs.Macroblocks.{flag, typeOf, word1, word2, word3, word4, wordsOf};
+ghost use Rattle.command.specs.Macroblocks.{flag, typeOf, fields1, fields2, fields3, fields4, wordsOf};
 
 fn flag_of(set: bool) -> u32
     ensures { λ r. ⌜ r ≡ flag set ⌝ }
@@ -38,7 +39,7 @@ fn type_of(kind: u8) -> u32
 }
 
 fn word1_of(macroblock: Macroblock) -> u32
-    ensures { λ r. ⌜ r ≡ word1 macroblock ⌝ }
+    ensures { λ r. ⌜ r ≡ packed (fields1 macroblock) ⌝ }
 {
     let case = macroblock.case;
     let motion = cases::motion_of(case);
@@ -53,7 +54,7 @@ fn word1_of(macroblock: Macroblock) -> u32
 }
 
 fn word2_of(macroblock: Macroblock) -> u32
-    ensures { λ r. ⌜ r ≡ word2 macroblock ⌝ }
+    ensures { λ r. ⌜ r ≡ packed (fields2 macroblock) ⌝ }
 {
     let column = macroblock.column as u32;
     let row = macroblock.row as u32;
@@ -62,7 +63,7 @@ fn word2_of(macroblock: Macroblock) -> u32
 }
 
 fn word3_of(macroblock: Macroblock) -> u32
-    ensures { λ r. ⌜ r ≡ word3 macroblock ⌝ }
+    ensures { λ r. ⌜ r ≡ packed (fields3 macroblock) ⌝ }
 {
     let pattern = macroblock.pattern as u32;
     let target_size = macroblock.target_size as u32;
@@ -73,7 +74,7 @@ fn word3_of(macroblock: Macroblock) -> u32
 }
 
 fn word4_of(macroblock: Macroblock) -> u32
-    ensures { λ r. ⌜ r ≡ word4 macroblock ⌝ }
+    ensures { λ r. ⌜ r ≡ packed (fields4 macroblock) ⌝ }
 {
     let quantiser = macroblock.quantiser as u32;
     let flags = macroblock.flags;

@@ -14,7 +14,7 @@ use mir.Val.{toZ, ofZ, SFits}
 use mir.Facts.{toZ-ofZ, ofZ-toZ, sfits-toZ}
 use Rattle.fields.specs.Word.{halvesOf, wordOfHalves}
 use Rattle.fields.specs.declared.Halves.{Halves}
-use Rattle.fields.proofs.Fields.{halves, halves-back, word-back}
+use Rattle.fields.proofs.Fields.{halves, halves-back, word-back, with-bits-lt}
 use Rattle.prediction.specs.Vectors.{signed16, bits16, vectorOf, wordOf}
 use Rattle.prediction.specs.declared.Vector.{Vector}
 use Rattle.prediction.proofs.Integers.{split, sub-neg}
@@ -63,6 +63,11 @@ signed-fits n h = subst (SFits w16) (toZ-signed n h) (sfits-toZ {w = w16} (recor
 pub vector-fits : (w : ℕ) → SFits w16 (vectorOf w .x) × SFits w16 (vectorOf w .y)
 unfolding vectorOf
 vector-fits w = (signed-fits (halvesOf w .low) (omega arith), signed-fits (halvesOf w .high) (omega arith))
+
+-- a vector's word is a word
+pub word-lt : (v : Vector) → SFits w16 (v .x) → wordOf v < 2 ^ 32
+unfolding wordOf
+word-lt v fx = let low = bits-lt (v .x) fx in with-bits-lt (bits16 (v .x)) 31 16 (bits16 (v .y)) (omega arith)
 
 abbrev pub pair : ℤ → ℤ → Vector
 pair x y = record { x = x; y = y }

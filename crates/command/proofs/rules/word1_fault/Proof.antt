@@ -11,21 +11,21 @@ use Rattle.command.proofs.rules.intra_not_skipped.Reads as intra-not-sk
 use Rattle.command.proofs.rules.skip_inside_slice.Reads as skip-inside-slice-reads
 use Rattle.command.proofs.rules.skip_pattern.Reads as skip-pattern-reads
 use Rattle.command.proofs.rules.type_permitted.Reads as type-permitted-reads
-use Rattle.command.proofs.rules.zero.Reads as zero-reads
+use Rattle.command.proofs.rules.zero_bits.Reads as zero-bits-reads
 
-zero-requires : tie.Need-zero-requires
-zero-requires c κs = search needs
+zero-bits-requires : tie.Need-zero-bits-requires
+zero-bits-requires c κs = search needs
 
 returns : tie.Need-returns
 unfolding word1Rules
-returns c = sym (in-order (word1Rules (c .before .before .args .word) (c .before .before .args .macroblock)) tt ∙ simp (broken (c .before .zero .ensures) (c .if1 .taken)))
+returns c = sym (in-order (word1Rules (c .before .before .args .word) (c .before .before .args .macroblock)) tt ∙ simp (broken (c .before .zero-bits .ensures) (c .if1 .taken)))
 
 both-zero-requires : tie.Need-both-zero-requires
 both-zero-requires c κs = search needs
 
 returns-2 : tie.Need-returns-2
 unfolding word1Rules
-returns-2 c = sym (in-order (word1Rules (c .before .before .before .before .args .word) (c .before .before .before .before .args .macroblock)) tt ∙ simp (broken (c .before .both-zero .ensures) (c .if2 .taken), kept (c .before .before .before .zero .ensures) (c .before .before .if1 .left)))
+returns-2 c = sym (in-order (word1Rules (c .before .before .before .before .args .word) (c .before .before .before .before .args .macroblock)) tt ∙ simp (broken (c .before .both-zero .ensures) (c .if2 .taken), kept (c .before .before .before .zero-bits .ensures) (c .before .before .if1 .left)))
 
 type-permitted-requires : tie.Need-type-permitted-requires
 type-permitted-requires c κs = search needs
@@ -35,7 +35,7 @@ unfolding word1Rules
 returns-3 c = sym (in-order (word1Rules (c .before .before .before .before .before .before .args .word) (c .before .before .before .before .before .before .args .macroblock)) tt ∙ simp (
   broken (c .before .type-permitted .ensures) (c .if3 .taken),
   kept (c .before .before .before .both-zero .ensures) (c .before .before .if2 .left),
-  kept (c .before .before .before .before .before .zero .ensures) (c .before .before .before .before .if1 .left),
+  kept (c .before .before .before .before .before .zero-bits .ensures) (c .before .before .before .before .if1 .left),
 ))
 
 intra-not-skipped-requires : tie.Need-intra-not-skipped-requires
@@ -47,7 +47,7 @@ returns-4 c = sym (in-order (word1Rules (c .before .before .before .before .befo
   broken (c .before .intra-not-skipped .ensures) (c .if4 .taken),
   kept (c .before .before .before .type-permitted .ensures) (c .before .before .if3 .left),
   kept (c .before .before .before .before .before .both-zero .ensures) (c .before .before .before .before .if2 .left),
-  kept (c .before .before .before .before .before .before .before .zero .ensures) (c .before .before .before .before .before .before .if1 .left),
+  kept (c .before .before .before .before .before .before .before .zero-bits .ensures) (c .before .before .before .before .before .before .if1 .left),
 ))
 
 skip-inside-slice-requires : tie.Need-skip-inside-slice-requires
@@ -60,7 +60,7 @@ returns-5 c = sym (in-order (word1Rules (c .before .before .before .before .befo
   kept (c .before .before .before .intra-not-skipped .ensures) (c .before .before .if4 .left),
   kept (c .before .before .before .before .before .type-permitted .ensures) (c .before .before .before .before .if3 .left),
   kept (c .before .before .before .before .before .before .before .both-zero .ensures) (c .before .before .before .before .before .before .if2 .left),
-  kept (c .before .before .before .before .before .before .before .before .before .zero .ensures) (c .before .before .before .before .before .before .before .before .if1 .left),
+  kept (c .before .before .before .before .before .before .before .before .before .zero-bits .ensures) (c .before .before .before .before .before .before .before .before .if1 .left),
 ))
 
 skip-pattern-requires : tie.Need-skip-pattern-requires
@@ -74,7 +74,7 @@ returns-6 c = sym (in-order (word1Rules (c .before .before .before .before .befo
   kept (c .before .before .before .before .before .intra-not-skipped .ensures) (c .before .before .before .before .if4 .left),
   kept (c .before .before .before .before .before .before .before .type-permitted .ensures) (c .before .before .before .before .before .before .if3 .left),
   kept (c .before .before .before .before .before .before .before .before .before .both-zero .ensures) (c .before .before .before .before .before .before .before .before .if2 .left),
-  kept (c .before .before .before .before .before .before .before .before .before .before .before .zero .ensures) (c .before .before .before .before .before .before .before .before .before .before .if1 .left),
+  kept (c .before .before .before .before .before .before .before .before .before .before .before .zero-bits .ensures) (c .before .before .before .before .before .before .before .before .before .before .if1 .left),
 ))
 
 returns-7 : tie.Need-returns-7
@@ -85,14 +85,14 @@ returns-7 c = sym (in-order (word1Rules (c .before .before .before .before .befo
   kept (c .before .before .before .before .before .intra-not-skipped .ensures) (c .before .before .before .before .if4 .left),
   kept (c .before .before .before .before .before .before .before .type-permitted .ensures) (c .before .before .before .before .before .before .if3 .left),
   kept (c .before .before .before .before .before .before .before .before .before .both-zero .ensures) (c .before .before .before .before .before .before .before .before .if2 .left),
-  kept (c .before .before .before .before .before .before .before .before .before .before .before .zero .ensures) (c .before .before .before .before .before .before .before .before .before .before .if1 .left),
+  kept (c .before .before .before .before .before .before .before .before .before .before .before .zero-bits .ensures) (c .before .before .before .before .before .before .before .before .before .before .if1 .left),
 ))
 
 pub word1-fault-spec : {M : Type 1} → statement M
 word1-fault-spec =
     tie.close
     (tie.spec
-    zero-requires
+    zero-bits-requires
     returns
     both-zero-requires
     returns-2

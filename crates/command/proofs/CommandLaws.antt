@@ -1,0 +1,317 @@
+-- A command and its macroblock: each gives the other back, and legal ones give legal ones.
+use mathlib.Core.Path.{_≡_, refl, sym, ap, ap₂, subst, _∙_}
+use mathlib.Core.Bool.{Bool, true, false, cond, _&&_}
+use mathlib.Core.List.{List, [], _∷_, _++_}
+use mathlib.Core.Logic.{_⊎_, inl, inr}
+use Prim.Native.Nat.{ℕ, zero, suc, _/_, _%_, _^_, _<_, _≤_}
+use native.Mathlib.Nat.{mod-lt, mod-eq-of-lt}
+use native.Mathlib.Omega.{arith}
+use borrow.Author.Tests.{eqb-true, eqb-false, leb-true, eq-eqb}
+use lib.Dec.{T, eqb, leb, eqb→eq}
+use lib.ListN.{length}
+use lib.Pow.{pow-pos}
+use Rattle.fields.specs.Word.{Field, width, bits, packed}
+use Rattle.fields.specs.Bytes.{elements}
+use Rattle.fields.proofs.Elements.{elements-all}
+use Rattle.fields.proofs.Packing.{valueIn, clear, piece, packed-field, packed-lt, packed-is, bits-cut}
+use Rattle.command.specs.Answers.{judged}
+use Rattle.command.specs.Cases.{motion, motionOf, caseOf, vectorWords}
+use Rattle.command.specs.Legal.{Words, Command, CaseFits, Legal}
+use Rattle.command.specs.Macroblocks.{wordAt, isSet, flag, isIntra, intraType, kindIn, typeOf, motionIn, flagsIn, assembled, macroblockOf, fields1, fields2, fields3, fields4, wordsOf}
+use Rattle.command.specs.Rules.{intraNotSkipped, intraPattern, quantiserPermitted, skipInsideSlice, skipPattern, zeroBits, typePermitted, word1Rules, word3Rules, word4Rules, vectorRules, commandRules}
+use Rattle.command.specs.declared.Case.{Case}
+use Rattle.command.specs.declared.Case.the-variants.{Intra, Inter}
+use Rattle.command.specs.declared.Prediction.the-variants.{Forward, Backward, Both}
+use Rattle.command.specs.declared.Flags.{Flags}
+use Rattle.command.specs.declared.Macroblock.{Macroblock}
+use Rattle.command.proofs.CaseLaws.{and-left, and-right, vectors-four, vectors-listed, vectors-words, case-fits, vectors-again, case-again, copies-again, type-back}
+use Rattle.command.proofs.Judging.{Hold, all-hold, none-broken, hold-both, hold-each}
+
+-- a flag in its bit
+flag-back : (b : Bool) → isSet (flag b % 2) ≡ b
+flag-back true = refl
+flag-back false = refl
+
+abbrev flagsMade : Bool → Bool → Bool → Bool → Bool → Bool → Flags
+flagsMade a b c d e f = record { «first_in_slice» = a; «last_in_slice» = b; «first_in_group» = c; «last_in_group» = d; clamp = e; «no_skip_conversion» = f }
+
+same-flags : {a b c d e f a′ b′ c′ d′ e′ f′ : Bool} → a ≡ a′ → b ≡ b′ → c ≡ c′ → d ≡ d′ → e ≡ e′ → f ≡ f′ → flagsMade a b c d e f ≡ flagsMade a′ b′ c′ d′ e′ f′
+same-flags ea eb ec ed ee ef = cc
+
+abbrev made : ℕ → ℕ → ℕ → Case → Bool → ℕ → ℕ → ℕ → ℕ → Flags → Macroblock
+made a b c d e f g h i j =
+    record { column = a; row = b; upper = c; case = d; skip = e; pattern = f; «max_size» = g; «target_size» = h; quantiser = i; flags = j }
+
+same-macroblock : {a b c a′ b′ c′ : ℕ} {d d′ : Case} {e e′ : Bool} {f g h i f′ g′ h′ i′ : ℕ} {j j′ : Flags} → a ≡ a′ → b ≡ b′ → c ≡ c′ → d ≡ d′ → e ≡ e′ → f ≡ f′ → g ≡ g′ → h ≡ h′ → i ≡ i′ → j ≡ j′ → made a b c d e f g h i j ≡ made a′ b′ c′ d′ e′ f′ g′ h′ i′ j′
+same-macroblock ea eb ec ed ee ef eg eh ei ej = cc
+
+same-four : {a b c d a′ b′ c′ d′ : ℕ} → a ≡ a′ → b ≡ b′ → c ≡ c′ → d ≡ d′ → a ∷ b ∷ c ∷ d ∷ [] ≡ a′ ∷ b′ ∷ c′ ∷ d′ ∷ []
+same-four ea eb ec ed = cc
+
+both-true : {a b : Bool} → a ≡ true → b ≡ true → (a && b) ≡ true
+both-true e f = simp (e, f)
+
+-- the rule of word 1's type, over the intra bit and the type
+abbrev permitted : ℕ → ℕ → Bool
+permitted i t = cond (isSet i) (eqb t intraType) (leb 1 t && leb t 3)
+
+-- a run of bits that no field covers is zero
+clear-zero : (fs : List Field) (h l : ℕ) → T (clear fs h l) → valueIn fs h l ≡ 0 → zeroBits (packed fs) h l ≡ true
+clear-zero fs h l t e = eq-eqb _ 0 (packed-field fs h l t ∙ e)
+
+-- From a macroblock to its words and back.
+module _ (m : Macroblock) where
+  kind-back : kindIn (packed (fields1 m)) ≡ motionOf (m .case) .kind
+  unfolding motionOf
+  kind-back = ap₂ (λ (i t : ℕ). cond (isSet i) 0 t) (packed-field (fields1 m) 13 13 tt) (packed-field (fields1 m) 12 8 tt) ∙ by (m .case)
+    where
+      by : (c : Case) → cond (isSet (flag (isIntra c) % 2)) 0 (typeOf (motionOf c .kind) % 32) ≡ motionOf c .kind
+      by Intra = refl
+      by (Inter (Forward f)) = refl
+      by (Inter (Backward b)) = refl
+      by (Inter (Both f b)) = refl
+
+  flags-back : flagsIn (packed (fields4 m)) ≡ m .flags
+  flags-back =
+      let f = m .flags in
+      let a = ap isSet (packed-field (fields4 m) 30 30 tt) ∙ flag-back (f .«first_in_slice») in
+      let b = ap isSet (packed-field (fields4 m) 31 31 tt) ∙ flag-back (f .«last_in_slice») in
+      let c = ap isSet (packed-field (fields4 m) 24 24 tt) ∙ flag-back (f .«first_in_group») in
+      let d = ap isSet (packed-field (fields4 m) 26 26 tt) ∙ flag-back (f .«last_in_group») in
+      let e = ap isSet (packed-field (fields4 m) 27 27 tt) ∙ flag-back (f .clamp) in
+      let g = ap isSet (packed-field (fields4 m) 25 25 tt) ∙ flag-back (f .«no_skip_conversion») in
+      same-flags a b c d e g
+
+  -- A legal macroblock comes back from its words.
+  pub macroblock-back : Legal m → macroblockOf (wordsOf m) ≡ m
+  unfolding macroblockOf wordsOf
+  macroblock-back l =
+      let quantiser = leb-true (m .quantiser) 31 (and-right (leb 1 (m .quantiser)) _ (l .quantiser-permitted)) in
+      same-macroblock
+      (packed-field (fields2 m) 15 0 tt ∙ mod-eq-of-lt (l .column-fits))
+      (packed-field (fields2 m) 31 16 tt ∙ mod-eq-of-lt (l .row-fits))
+      (packed-field (fields1 m) 31 16 tt ∙ mod-eq-of-lt (l .upper-fits))
+      (ap (λ (k : ℕ). caseOf (motion k (wordAt (vectorWords (motionOf (m .case))) 0) (wordAt (vectorWords (motionOf (m .case))) 1))) kind-back ∙ case-again (m .case) (l .case-fits))
+      (ap isSet (packed-field (fields1 m) 2 2 tt) ∙ flag-back (m .skip))
+      (packed-field (fields3 m) 11 6 tt ∙ mod-eq-of-lt (l .pattern-fits))
+      (packed-field (fields3 m) 31 24 tt ∙ mod-eq-of-lt (l .max-fits))
+      (packed-field (fields3 m) 23 16 tt ∙ mod-eq-of-lt (l .target-fits))
+      (packed-field (fields4 m) 4 0 tt ∙ mod-eq-of-lt (omega arith))
+      flags-back
+
+  type-permitted : typePermitted (packed (fields1 m)) ≡ true
+  unfolding motionOf
+  type-permitted =
+      ap₂ permitted (packed-field (fields1 m) 13 13 tt) (packed-field (fields1 m) 12 8 tt) ∙ by (m .case)
+    where
+      by : (c : Case) → permitted (flag (isIntra c) % 2) (typeOf (motionOf c .kind) % 32) ≡ true
+      by Intra = refl
+      by (Inter (Forward f)) = refl
+      by (Inter (Backward b)) = refl
+      by (Inter (Both f b)) = refl
+
+  copies-back : vectorWords (motionIn (wordsOf m)) ≡ vectorWords (motionOf (m .case))
+  unfolding wordsOf
+  copies-back =
+      ap (λ (k : ℕ). vectorWords (motion k (wordAt (vectorWords (motionOf (m .case))) 0) (wordAt (vectorWords (motionOf (m .case))) 1))) kind-back
+      ∙ copies-again (m .case)
+
+  hold1 : Legal m → Hold (word1Rules (packed (fields1 m)) m)
+  unfolding word1Rules
+  hold1 l =
+      let low = both-true (clear-zero (fields1 m) 7 3 tt refl) (clear-zero (fields1 m) 1 0 tt refl) in
+      (clear-zero (fields1 m) 15 14 tt refl, (low, (type-permitted, (l .intra-not-skipped, (l .skip-inside-slice, (l .skip-pattern, tt))))))
+
+  hold3 : Legal m → Hold (word3Rules (packed (fields3 m)) m)
+  unfolding word3Rules
+  hold3 l = (both-true (clear-zero (fields3 m) 15 12 tt refl) (clear-zero (fields3 m) 5 0 tt refl), (l .intra-pattern, tt))
+
+  hold4 : Legal m → Hold (word4Rules (packed (fields4 m)) m)
+  unfolding word4Rules
+  hold4 l = (both-true (clear-zero (fields4 m) 29 28 tt refl) (clear-zero (fields4 m) 23 5 tt refl), (l .quantiser-permitted, tt))
+
+  hold-vectors : Hold (vectorRules (wordsOf m) (vectorWords (motionIn (wordsOf m))))
+  unfolding wordsOf vectorRules
+  hold-vectors =
+      let copied : (i : ℕ) → eqb (wordAt (vectorWords (motionOf (m .case))) i) (wordAt (vectorWords (motionIn (wordsOf m))) i) ≡ true =
+      λ i. eq-eqb _ _ (sym (ap (λ (ws : List ℕ). wordAt ws i) copies-back)) in
+      (copied 0, (copied 1, (copied 2, (copied 3, tt))))
+
+  -- A legal macroblock's words are a command.
+  pub words-kept : Legal m → Command (wordsOf m)
+  unfolding wordsOf commandRules
+  words-kept l =
+      let as-made : (P : Macroblock → Type 0) → P m → P (macroblockOf (wordsOf m)) = λ P p. subst P (sym (macroblock-back l)) p in
+      let r1 = word1Rules (packed (fields1 m)) (macroblockOf (wordsOf m)) in
+      let r3 = word3Rules (packed (fields3 m)) (macroblockOf (wordsOf m)) in
+      let r4 = word4Rules (packed (fields4 m)) (macroblockOf (wordsOf m)) in
+      let rv = vectorRules (wordsOf m) (vectorWords (motionIn (wordsOf m))) in
+      let h1 = as-made (λ (n : Macroblock). Hold (word1Rules (packed (fields1 m)) n)) (hold1 l) in
+      let h3 = as-made (λ (n : Macroblock). Hold (word3Rules (packed (fields3 m)) n)) (hold3 l) in
+      let h4 = as-made (λ (n : Macroblock). Hold (word4Rules (packed (fields4 m)) n)) (hold4 l) in
+      let vectors = vectors-words (m .case) (l .case-fits) in
+      record {
+        nine = ap (λ (n : ℕ). suc (suc (suc (suc (suc n))))) (vectors-four (motionOf (m .case)));
+        words = (omega arith, (packed-lt (fields1 m), (packed-lt (fields2 m), (packed-lt (fields3 m), (packed-lt (fields4 m), vectors)))));
+        header = refl;
+        kept = none-broken (commandRules (wordsOf m)) (hold-both r1 (r3 ++ (r4 ++ rv)) h1 (hold-both r3 (r4 ++ rv) h3 (hold-both r4 rv h4 hold-vectors)));
+      }
+
+-- From a command's words to its macroblock and back.
+word-below : (ws : List ℕ) → Words ws → (i : ℕ) → wordAt ws i < 2 ^ 32
+word-below [] h i = omega arith
+word-below (w ∷ ws) h zero = h .0
+word-below (w ∷ ws) h (suc i) = word-below ws (h .1) i
+
+bits-lt : (w hi lo : ℕ) → bits w hi lo < 2 ^ width hi lo
+bits-lt w hi lo = mod-lt (w / 2 ^ lo) (pow-pos (width hi lo))
+
+-- one bit, as a flag and back
+bit-back : (b : ℕ) → b < 2 → flag (isSet b) % 2 ≡ b
+bit-back b h = by (eqb b 1) refl
+  where
+    by : (x : Bool) → eqb b 1 ≡ x → flag x % 2 ≡ b
+    by true e = sym (eqb-true b 1 e)
+    by false e = omega (arith, eqb-false b 1 e)
+
+module _ (ws : List ℕ) (c : Command ws) where
+  abbrev m : Macroblock
+  m = macroblockOf ws
+
+  abbrev w : ℕ → ℕ
+  w i = wordAt ws i
+
+  rules : Hold (word1Rules (w 1) m) × Hold (word3Rules (w 3) m) × Hold (word4Rules (w 4) m) × Hold (vectorRules ws (vectorWords (motionIn ws)))
+  unfolding commandRules
+  rules =
+      let h1 = hold-each (word1Rules (w 1) m) _ (all-hold (commandRules ws) (c .kept)) in
+      let h3 = hold-each (word3Rules (w 3) m) _ (h1 .1) in
+      let h4 = hold-each (word4Rules (w 4) m) _ (h3 .1) in
+      (h1 .0, h3 .0, h4 .0, h4 .1)
+
+  -- A command's macroblock is legal.
+  pub macroblock-legal : Legal (macroblockOf ws)
+  unfolding macroblockOf word1Rules word3Rules word4Rules
+  macroblock-legal =
+      let h1 = rules .0 in
+      record {
+        column-fits = bits-lt (w 2) 15 0;
+        row-fits = bits-lt (w 2) 31 16;
+        upper-fits = bits-lt (w 1) 31 16;
+        case-fits = case-fits (motionIn ws);
+        pattern-fits = bits-lt (w 3) 11 6;
+        max-fits = bits-lt (w 3) 31 24;
+        target-fits = bits-lt (w 3) 23 16;
+        intra-not-skipped = h1 .1 .1 .1 .0;
+        intra-pattern = rules .1 .1 .0;
+        quantiser-permitted = rules .2 .1 .0;
+        skip-inside-slice = h1 .1 .1 .1 .1 .0;
+        skip-pattern = h1 .1 .1 .1 .1 .1 .0;
+      }
+
+  none : (i hi lo : ℕ) → zeroBits (w i) hi lo ≡ true → 0 ≡ bits (w i) hi lo
+  none i hi lo e = sym (eqb-true (bits (w i) hi lo) 0 e)
+
+  both-none : (i hi lo h l : ℕ) → (zeroBits (w i) hi lo && zeroBits (w i) h l) ≡ true → (0 ≡ bits (w i) hi lo) × (0 ≡ bits (w i) h l)
+  both-none i hi lo h l e =
+      (none i hi lo (and-left (zeroBits (w i) hi lo) (zeroBits (w i) h l) e), none i h l (and-right (zeroBits (w i) hi lo) (zeroBits (w i) h l) e))
+
+  word1-back : packed (fields1 m) ≡ w 1
+  unfolding macroblockOf word1Rules
+  word1-back =
+      let h = rules .0 in
+      let low = both-none 1 7 3 1 0 (h .1 .0) in
+      let typed = type-back (bits (w 1) 13 13) (bits (w 1) 12 8) (w 5) (w 6) (bits-lt (w 1) 13 13) (h .1 .1 .0) in
+      packed-is (fields1 m) (w 1) (piece 1 0 ∷ piece 2 2 ∷ piece 7 3 ∷ piece 12 8 ∷ piece 13 13 ∷ piece 15 14 ∷ piece 31 16 ∷ []) (word-below ws (c .words) 1) tt (
+        low .1,
+        (
+          bit-back (bits (w 1) 2 2) (bits-lt (w 1) 2 2),
+          (
+            low .0,
+            (
+              typed .0,
+              (
+                typed .1,
+                (
+                  none 1 15 14 (h .0),
+                  (bits-cut (w 1) 31 16, tt),
+                ),
+              ),
+            ),
+          ),
+        ),
+      )
+
+  word2-back : packed (fields2 m) ≡ w 2
+  unfolding macroblockOf
+  word2-back = packed-is (fields2 m) (w 2) (piece 15 0 ∷ piece 31 16 ∷ []) (word-below ws (c .words) 2) tt (bits-cut (w 2) 15 0, (bits-cut (w 2) 31 16, tt))
+
+  word3-back : packed (fields3 m) ≡ w 3
+  unfolding macroblockOf word3Rules
+  word3-back =
+      let low = both-none 3 15 12 5 0 (rules .1 .0) in
+      packed-is (fields3 m) (w 3) (piece 5 0 ∷ piece 11 6 ∷ piece 15 12 ∷ piece 23 16 ∷ piece 31 24 ∷ []) (word-below ws (c .words) 3) tt (
+        low .1,
+        (
+          bits-cut (w 3) 11 6,
+          (
+            low .0,
+            (
+              bits-cut (w 3) 23 16,
+              (bits-cut (w 3) 31 24, tt),
+            ),
+          ),
+        ),
+      )
+
+  word4-back : packed (fields4 m) ≡ w 4
+  unfolding macroblockOf word4Rules
+  word4-back =
+      let low = both-none 4 29 28 23 5 (rules .2 .0) in
+      let bit : (i : ℕ) → T (eqb (width i i) 1) → flag (isSet (bits (w 4) i i)) % 2 ≡ bits (w 4) i i = λ i t. bit-back (bits (w 4) i i) (subst (λ (n : ℕ). bits (w 4) i i < 2 ^ n) (eqb→eq (width i i) 1 t) (bits-lt (w 4) i i)) in
+      packed-is (fields4 m) (w 4) (piece 4 0 ∷ piece 23 5 ∷ piece 24 24 ∷ piece 25 25 ∷ piece 26 26 ∷ piece 27 27 ∷ piece 29 28 ∷ piece 30 30 ∷ piece 31 31 ∷ []) (word-below ws (c .words) 4) tt (
+        bits-cut (w 4) 4 0,
+        (
+          low .1,
+          (
+            bit 24 tt,
+            (
+              bit 25 tt,
+              (
+                bit 26 tt,
+                (
+                  bit 27 tt,
+                  (
+                    low .0,
+                    (
+                      bit 30 tt,
+                      (bit 31 tt, tt),
+                    ),
+                  ),
+                ),
+              ),
+            ),
+          ),
+        ),
+      )
+
+  vectors-back : vectorWords (motionOf (m .case)) ≡ w 5 ∷ w 6 ∷ w 7 ∷ w 8 ∷ []
+  unfolding macroblockOf vectorRules
+  vectors-back =
+      let h = rules .3 in
+      let v = vectorWords (motionIn ws) in
+      let listed = same-four (eqb-true (w 5) (wordAt v 0) (h .0)) (eqb-true (w 6) (wordAt v 1) (h .1 .0)) (eqb-true (w 7) (wordAt v 2) (h .1 .1 .0)) (eqb-true (w 8) (wordAt v 3) (h .1 .1 .1 .0)) in
+      vectors-again (motionIn ws) (word-below ws (c .words) 5) (word-below ws (c .words) 6) ∙ sym (listed ∙ vectors-listed (motionIn ws))
+
+  -- A command comes back from its macroblock, all nine words.
+  pub words-back : wordsOf (macroblockOf ws) ≡ ws
+  unfolding wordsOf
+  words-back =
+      let e0 = c .header in
+      let e1 = word1-back in
+      let e2 = word2-back in
+      let e3 = word3-back in
+      let e4 = word4-back in
+      let ev = vectors-back in
+      let listed : wordsOf (macroblockOf ws) ≡ elements ws 0 9 = cc in
+      listed ∙ elements-all ws 9 (c .nine)

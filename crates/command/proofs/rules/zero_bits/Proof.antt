@@ -1,0 +1,15 @@
+use borrow.Author.Needs.{needs}
+use Rattle.command.proofs.rules.zero_bits.Statement.{statement}
+use Rattle.command.proofs.rules.zero_bits.Tie as tie
+use Rattle.command.proofs.rules.zero_bits.Reads as reads
+use Rattle.command.proofs.rules.zero_bits.Lts as lts
+use Rattle.fields.proofs.bits.Reads as bits-reads
+
+bits-requires : tie.Need-bits-requires
+bits-requires c κs = search needs
+
+returns : tie.Need-returns
+returns c = cc
+
+pub zero-bits-spec : {M : Type 1} → statement M
+zero-bits-spec = tie.close (tie.spec bits-requires returns)

@@ -1,0 +1,55 @@
+-- The macroblocks that a command can hold.
+use Prim.Native.Nat.{ℕ, _<_, _^_}
+use mathlib.Core.Bool.{true}
+use mathlib.Core.List.{List, [], _∷_}
+use mathlib.Core.Path.{_≡_}
+use lib.ListN.{length}
+use mir.Syntax.{w16}
+use mir.Val.{SFits}
+use Rattle.prediction.specs.declared.Vector.{Vector}
+use Rattle.command.specs.Answers.{judged}
+use Rattle.command.specs.Headers.{macroblockHeader}
+use Rattle.command.specs.Macroblocks.{wordAt}
+use Rattle.command.specs.Rules.{intraNotSkipped, intraPattern, quantiserPermitted, skipInsideSlice, skipPattern, commandRules}
+use Rattle.command.specs.declared.Answer.the-variants.{Accepted}
+use Rattle.command.specs.declared.Prediction.the-variants.{Forward, Backward, Both}
+use Rattle.command.specs.declared.Case.{Case}
+use Rattle.command.specs.declared.Case.the-variants.{Intra, Inter}
+use Rattle.command.specs.declared.Macroblock.{Macroblock}
+
+-- Each is a 32-bit word.
+abbrev pub Words : List ℕ → Type 0
+Words [] = Unit {0}
+Words (w ∷ ws) = (w < 2 ^ 32) × Words ws
+
+-- A whole MACROBLOCK command, of nine words, that keeps the rules of a command alone.
+pub record Command (ws : List ℕ) : Type 0 where
+  pub nine : length ws ≡ 9
+  pub words : Words ws
+  pub header : wordAt ws 0 ≡ macroblockHeader
+  pub kept : judged (commandRules ws) ≡ Accepted
+
+-- The vectors fit their halves of a word.
+abbrev pub Fits : Vector → Type 0
+Fits v = SFits w16 (v .x) × SFits w16 (v .y)
+
+abbrev pub CaseFits : Case → Type 0
+CaseFits Intra = Unit {0}
+CaseFits (Inter (Forward f)) = Fits f
+CaseFits (Inter (Backward b)) = Fits b
+CaseFits (Inter (Both f b)) = Fits f × Fits b
+
+-- Each field fits its bits, and the rules of the macroblock itself hold.
+pub record Legal (m : Macroblock) : Type 0 where
+  pub column-fits : m .column < 65536
+  pub row-fits : m .row < 65536
+  pub upper-fits : m .upper < 65536
+  pub case-fits : CaseFits (m .case)
+  pub pattern-fits : m .pattern < 64
+  pub max-fits : m .«max_size» < 256
+  pub target-fits : m .«target_size» < 256
+  pub intra-not-skipped : intraNotSkipped m ≡ true
+  pub intra-pattern : intraPattern m ≡ true
+  pub quantiser-permitted : quantiserPermitted m ≡ true
+  pub skip-inside-slice : skipInsideSlice m ≡ true
+  pub skip-pattern : skipPattern m ≡ true
