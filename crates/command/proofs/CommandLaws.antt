@@ -14,18 +14,18 @@ use Rattle.fields.specs.Word.{Field, width, bits, packed}
 use Rattle.fields.specs.Bytes.{elements}
 use Rattle.fields.proofs.Elements.{elements-all}
 use Rattle.fields.proofs.Packing.{valueIn, clear, piece, packed-field, packed-lt, packed-is, bits-cut}
-use Rattle.command.specs.Answers.{judged}
+use Rattle.answers.specs.Answers.{Rule, judged}
 use Rattle.command.specs.Cases.{motion, motionOf, caseOf, vectorWords}
 use Rattle.command.specs.Legal.{Words, Command, CaseFits, Legal}
 use Rattle.command.specs.Macroblocks.{wordAt, isSet, flag, isIntra, intraType, kindIn, typeOf, motionIn, flagsIn, assembled, macroblockOf, fields1, fields2, fields3, fields4, wordsOf}
-use Rattle.command.specs.Rules.{intraNotSkipped, intraPattern, quantiserPermitted, skipInsideSlice, skipPattern, zeroBits, typePermitted, word1Rules, word3Rules, word4Rules, vectorRules, commandRules}
+use Rattle.command.specs.Rules.{keptBy, zeroBits, typePermitted, fieldRules, vectorRules, commandRules}
 use Rattle.command.specs.declared.Case.{Case}
 use Rattle.command.specs.declared.Case.the-variants.{Intra, Inter}
 use Rattle.command.specs.declared.Prediction.the-variants.{Forward, Backward, Both}
 use Rattle.command.specs.declared.Flags.{Flags}
 use Rattle.command.specs.declared.Macroblock.{Macroblock}
 use Rattle.command.proofs.CaseLaws.{and-left, and-right, vectors-four, vectors-listed, vectors-words, case-fits, vectors-again, case-again, copies-again, type-back}
-use Rattle.command.proofs.Judging.{Hold, all-hold, none-broken, hold-both, hold-each}
+use Rattle.answers.proofs.Judging.{Hold, all-hold, none-broken, hold-both, hold-each}
 
 -- a flag in its bit
 flag-back : (b : Bool) → isSet (flag b % 2) ≡ b
@@ -83,10 +83,13 @@ module _ (m : Macroblock) where
       same-flags a b c d e g
 
   -- A legal macroblock comes back from its words.
+  quantiser-lt : Legal m → m .quantiser < 32
+  unfolding keptBy
+  quantiser-lt l = let most = leb-true (m .quantiser) 31 (and-right (leb 1 (m .quantiser)) (leb (m .quantiser) 31) (l .quantiser-permitted)) in omega arith
+
   pub macroblock-back : Legal m → macroblockOf (wordsOf m) ≡ m
   unfolding macroblockOf wordsOf
   macroblock-back l =
-      let quantiser = leb-true (m .quantiser) 31 (and-right (leb 1 (m .quantiser)) _ (l .quantiser-permitted)) in
       same-macroblock
       (packed-field (fields2 m) 15 0 tt ∙ mod-eq-of-lt (l .column-fits))
       (packed-field (fields2 m) 31 16 tt ∙ mod-eq-of-lt (l .row-fits))
@@ -96,7 +99,7 @@ module _ (m : Macroblock) where
       (packed-field (fields3 m) 11 6 tt ∙ mod-eq-of-lt (l .pattern-fits))
       (packed-field (fields3 m) 31 24 tt ∙ mod-eq-of-lt (l .max-fits))
       (packed-field (fields3 m) 23 16 tt ∙ mod-eq-of-lt (l .target-fits))
-      (packed-field (fields4 m) 4 0 tt ∙ mod-eq-of-lt (omega arith))
+      (packed-field (fields4 m) 4 0 tt ∙ mod-eq-of-lt (quantiser-lt l))
       flags-back
 
   type-permitted : typePermitted (packed (fields1 m)) ≡ true
@@ -116,19 +119,16 @@ module _ (m : Macroblock) where
       ap (λ (k : ℕ). vectorWords (motion k (wordAt (vectorWords (motionOf (m .case))) 0) (wordAt (vectorWords (motionOf (m .case))) 1))) kind-back
       ∙ copies-again (m .case)
 
-  hold1 : Legal m → Hold (word1Rules (packed (fields1 m)) m)
-  unfolding word1Rules
-  hold1 l =
-      let low = both-true (clear-zero (fields1 m) 7 3 tt refl) (clear-zero (fields1 m) 1 0 tt refl) in
-      (clear-zero (fields1 m) 15 14 tt refl, (low, (type-permitted, (l .intra-not-skipped, (l .skip-inside-slice, (l .skip-pattern, tt))))))
-
-  hold3 : Legal m → Hold (word3Rules (packed (fields3 m)) m)
-  unfolding word3Rules
-  hold3 l = (both-true (clear-zero (fields3 m) 15 12 tt refl) (clear-zero (fields3 m) 5 0 tt refl), (l .intra-pattern, tt))
-
-  hold4 : Legal m → Hold (word4Rules (packed (fields4 m)) m)
-  unfolding word4Rules
-  hold4 l = (both-true (clear-zero (fields4 m) 29 28 tt refl) (clear-zero (fields4 m) 23 5 tt refl), (l .quantiser-permitted, tt))
+  hold-fields : Legal m → Hold (fieldRules (packed (fields1 m)) (packed (fields3 m)) (packed (fields4 m)) (keptBy m))
+  unfolding fieldRules
+  hold-fields l =
+      let clear1 = clear-zero (fields1 m) in
+      let fixed1 = both-true (clear1 15 14 tt refl) (both-true (clear1 7 3 tt refl) (clear1 1 0 tt refl)) in
+      let fixed3 = both-true (clear-zero (fields3 m) 15 12 tt refl) (clear-zero (fields3 m) 5 0 tt refl) in
+      let fixed4 = both-true (clear-zero (fields4 m) 29 28 tt refl) (clear-zero (fields4 m) 23 5 tt refl) in
+      let permitted = both-true type-permitted (l .intra-not-skipped) in
+      let skip = both-true (l .skip-inside-slice) (l .skip-pattern) in
+      (fixed1, (permitted, (skip, (fixed3, (l .intra-pattern, (fixed4, (l .quantiser-permitted, tt)))))))
 
   hold-vectors : Hold (vectorRules (wordsOf m) (vectorWords (motionIn (wordsOf m))))
   unfolding wordsOf vectorRules
@@ -141,20 +141,16 @@ module _ (m : Macroblock) where
   pub words-kept : Legal m → Command (wordsOf m)
   unfolding wordsOf commandRules
   words-kept l =
-      let as-made : (P : Macroblock → Type 0) → P m → P (macroblockOf (wordsOf m)) = λ P p. subst P (sym (macroblock-back l)) p in
-      let r1 = word1Rules (packed (fields1 m)) (macroblockOf (wordsOf m)) in
-      let r3 = word3Rules (packed (fields3 m)) (macroblockOf (wordsOf m)) in
-      let r4 = word4Rules (packed (fields4 m)) (macroblockOf (wordsOf m)) in
-      let rv = vectorRules (wordsOf m) (vectorWords (motionIn (wordsOf m))) in
-      let h1 = as-made (λ (n : Macroblock). Hold (word1Rules (packed (fields1 m)) n)) (hold1 l) in
-      let h3 = as-made (λ (n : Macroblock). Hold (word3Rules (packed (fields3 m)) n)) (hold3 l) in
-      let h4 = as-made (λ (n : Macroblock). Hold (word4Rules (packed (fields4 m)) n)) (hold4 l) in
+      let table : Macroblock → List Rule = λ n. fieldRules (packed (fields1 m)) (packed (fields3 m)) (packed (fields4 m)) (keptBy n) in
+      let fields = subst (λ (n : Macroblock). Hold (table n)) (sym (macroblock-back l)) (hold-fields l) in
       let vectors = vectors-words (m .case) (l .case-fits) in
       record {
         nine = ap (λ (n : ℕ). suc (suc (suc (suc (suc n))))) (vectors-four (motionOf (m .case)));
         words = (omega arith, (packed-lt (fields1 m), (packed-lt (fields2 m), (packed-lt (fields3 m), (packed-lt (fields4 m), vectors)))));
         header = refl;
-        kept = none-broken (commandRules (wordsOf m)) (hold-both r1 (r3 ++ (r4 ++ rv)) h1 (hold-both r3 (r4 ++ rv) h3 (hold-both r4 rv h4 hold-vectors)));
+        kept =
+            none-broken (commandRules (wordsOf m))
+            (hold-both (table (macroblockOf (wordsOf m))) (vectorRules (wordsOf m) (vectorWords (motionIn (wordsOf m)))) fields hold-vectors);
       }
 
 -- From a command's words to its macroblock and back.
@@ -181,19 +177,16 @@ module _ (ws : List ℕ) (c : Command ws) where
   abbrev w : ℕ → ℕ
   w i = wordAt ws i
 
-  rules : Hold (word1Rules (w 1) m) × Hold (word3Rules (w 3) m) × Hold (word4Rules (w 4) m) × Hold (vectorRules ws (vectorWords (motionIn ws)))
+  rules : Hold (fieldRules (w 1) (w 3) (w 4) (keptBy m)) × Hold (vectorRules ws (vectorWords (motionIn ws)))
   unfolding commandRules
-  rules =
-      let h1 = hold-each (word1Rules (w 1) m) _ (all-hold (commandRules ws) (c .kept)) in
-      let h3 = hold-each (word3Rules (w 3) m) _ (h1 .1) in
-      let h4 = hold-each (word4Rules (w 4) m) _ (h3 .1) in
-      (h1 .0, h3 .0, h4 .0, h4 .1)
+  rules = hold-each (fieldRules (w 1) (w 3) (w 4) (keptBy m)) (vectorRules ws (vectorWords (motionIn ws))) (all-hold (commandRules ws) (c .kept))
 
   -- A command's macroblock is legal.
   pub macroblock-legal : Legal (macroblockOf ws)
-  unfolding macroblockOf word1Rules word3Rules word4Rules
+  unfolding macroblockOf fieldRules
   macroblock-legal =
-      let h1 = rules .0 in
+      let h = rules .0 in
+      let k = keptBy m in
       record {
         column-fits = bits-lt (w 2) 15 0;
         row-fits = bits-lt (w 2) 31 16;
@@ -202,11 +195,11 @@ module _ (ws : List ℕ) (c : Command ws) where
         pattern-fits = bits-lt (w 3) 11 6;
         max-fits = bits-lt (w 3) 31 24;
         target-fits = bits-lt (w 3) 23 16;
-        intra-not-skipped = h1 .1 .1 .1 .0;
-        intra-pattern = rules .1 .1 .0;
-        quantiser-permitted = rules .2 .1 .0;
-        skip-inside-slice = h1 .1 .1 .1 .1 .0;
-        skip-pattern = h1 .1 .1 .1 .1 .1 .0;
+        intra-not-skipped = and-right (typePermitted (w 1)) (k .«intra_not_skipped») (h .1 .0);
+        intra-pattern = h .1 .1 .1 .1 .0;
+        quantiser-permitted = h .1 .1 .1 .1 .1 .1 .0;
+        skip-inside-slice = and-left (k .«skip_inside_slice») (k .«skip_pattern») (h .1 .1 .0);
+        skip-pattern = and-right (k .«skip_inside_slice») (k .«skip_pattern») (h .1 .1 .0);
       }
 
   none : (i hi lo : ℕ) → zeroBits (w i) hi lo ≡ true → 0 ≡ bits (w i) hi lo
@@ -217,11 +210,13 @@ module _ (ws : List ℕ) (c : Command ws) where
       (none i hi lo (and-left (zeroBits (w i) hi lo) (zeroBits (w i) h l) e), none i h l (and-right (zeroBits (w i) hi lo) (zeroBits (w i) h l) e))
 
   word1-back : packed (fields1 m) ≡ w 1
-  unfolding macroblockOf word1Rules
+  unfolding macroblockOf fieldRules
   word1-back =
       let h = rules .0 in
-      let low = both-none 1 7 3 1 0 (h .1 .0) in
-      let typed = type-back (bits (w 1) 13 13) (bits (w 1) 12 8) (w 5) (w 6) (bits-lt (w 1) 13 13) (h .1 .1 .0) in
+      let top = and-left (zeroBits (w 1) 15 14) (zeroBits (w 1) 7 3 && zeroBits (w 1) 1 0) (h .0) in
+      let low = both-none 1 7 3 1 0 (and-right (zeroBits (w 1) 15 14) (zeroBits (w 1) 7 3 && zeroBits (w 1) 1 0) (h .0)) in
+      let typed-right = and-left (typePermitted (w 1)) (keptBy m .«intra_not_skipped») (h .1 .0) in
+      let typed = type-back (bits (w 1) 13 13) (bits (w 1) 12 8) (w 5) (w 6) (bits-lt (w 1) 13 13) typed-right in
       packed-is (fields1 m) (w 1) (piece 1 0 ∷ piece 2 2 ∷ piece 7 3 ∷ piece 12 8 ∷ piece 13 13 ∷ piece 15 14 ∷ piece 31 16 ∷ []) (word-below ws (c .words) 1) tt (
         low .1,
         (
@@ -233,7 +228,7 @@ module _ (ws : List ℕ) (c : Command ws) where
               (
                 typed .1,
                 (
-                  none 1 15 14 (h .0),
+                  none 1 15 14 top,
                   (bits-cut (w 1) 31 16, tt),
                 ),
               ),
@@ -247,9 +242,9 @@ module _ (ws : List ℕ) (c : Command ws) where
   word2-back = packed-is (fields2 m) (w 2) (piece 15 0 ∷ piece 31 16 ∷ []) (word-below ws (c .words) 2) tt (bits-cut (w 2) 15 0, (bits-cut (w 2) 31 16, tt))
 
   word3-back : packed (fields3 m) ≡ w 3
-  unfolding macroblockOf word3Rules
+  unfolding macroblockOf fieldRules
   word3-back =
-      let low = both-none 3 15 12 5 0 (rules .1 .0) in
+      let low = both-none 3 15 12 5 0 (rules .0 .1 .1 .1 .0) in
       packed-is (fields3 m) (w 3) (piece 5 0 ∷ piece 11 6 ∷ piece 15 12 ∷ piece 23 16 ∷ piece 31 24 ∷ []) (word-below ws (c .words) 3) tt (
         low .1,
         (
@@ -265,9 +260,9 @@ module _ (ws : List ℕ) (c : Command ws) where
       )
 
   word4-back : packed (fields4 m) ≡ w 4
-  unfolding macroblockOf word4Rules
+  unfolding macroblockOf fieldRules
   word4-back =
-      let low = both-none 4 29 28 23 5 (rules .2 .0) in
+      let low = both-none 4 29 28 23 5 (rules .0 .1 .1 .1 .1 .1 .0) in
       let bit : (i : ℕ) → T (eqb (width i i) 1) → flag (isSet (bits (w 4) i i)) % 2 ≡ bits (w 4) i i = λ i t. bit-back (bits (w 4) i i) (subst (λ (n : ℕ). bits (w 4) i i < 2 ^ n) (eqb→eq (width i i) 1 t) (bits-lt (w 4) i i)) in
       packed-is (fields4 m) (w 4) (piece 4 0 ∷ piece 23 5 ∷ piece 24 24 ∷ piece 25 25 ∷ piece 26 26 ∷ piece 27 27 ∷ piece 29 28 ∷ piece 30 30 ∷ piece 31 31 ∷ []) (word-below ws (c .words) 4) tt (
         bits-cut (w 4) 4 0,
@@ -298,7 +293,7 @@ module _ (ws : List ℕ) (c : Command ws) where
   vectors-back : vectorWords (motionOf (m .case)) ≡ w 5 ∷ w 6 ∷ w 7 ∷ w 8 ∷ []
   unfolding macroblockOf vectorRules
   vectors-back =
-      let h = rules .3 in
+      let h = rules .1 in
       let v = vectorWords (motionIn ws) in
       let listed = same-four (eqb-true (w 5) (wordAt v 0) (h .0)) (eqb-true (w 6) (wordAt v 1) (h .1 .0)) (eqb-true (w 7) (wordAt v 2) (h .1 .1 .0)) (eqb-true (w 8) (wordAt v 3) (h .1 .1 .1 .0)) in
       vectors-again (motionIn ws) (word-below ws (c .words) 5) (word-below ws (c .words) 6) ∙ sym (listed ∙ vectors-listed (motionIn ws))

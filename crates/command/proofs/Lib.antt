@@ -1,4 +1,3 @@
 -- for the crates above
 pub mod CaseLaws
 pub mod CommandLaws
-pub mod Judging

@@ -7,11 +7,11 @@ use lib.ListN.{length}
 use mir.Syntax.{w16}
 use mir.Val.{SFits}
 use Rattle.prediction.specs.declared.Vector.{Vector}
-use Rattle.command.specs.Answers.{judged}
+use Rattle.answers.specs.Answers.{judged}
 use Rattle.command.specs.Headers.{macroblockHeader}
 use Rattle.command.specs.Macroblocks.{wordAt}
-use Rattle.command.specs.Rules.{intraNotSkipped, intraPattern, quantiserPermitted, skipInsideSlice, skipPattern, commandRules}
-use Rattle.command.specs.declared.Answer.the-variants.{Accepted}
+use Rattle.command.specs.Rules.{keptBy, commandRules}
+use Rattle.answers.specs.declared.Answer.the-variants.{Accepted}
 use Rattle.command.specs.declared.Prediction.the-variants.{Forward, Backward, Both}
 use Rattle.command.specs.declared.Case.{Case}
 use Rattle.command.specs.declared.Case.the-variants.{Intra, Inter}
@@ -48,8 +48,8 @@ pub record Legal (m : Macroblock) : Type 0 where
   pub pattern-fits : m .pattern < 64
   pub max-fits : m .«max_size» < 256
   pub target-fits : m .«target_size» < 256
-  pub intra-not-skipped : intraNotSkipped m ≡ true
-  pub intra-pattern : intraPattern m ≡ true
-  pub quantiser-permitted : quantiserPermitted m ≡ true
-  pub skip-inside-slice : skipInsideSlice m ≡ true
-  pub skip-pattern : skipPattern m ≡ true
+  pub intra-not-skipped : keptBy m .«intra_not_skipped» ≡ true
+  pub intra-pattern : keptBy m .«intra_pattern» ≡ true
+  pub quantiser-permitted : keptBy m .quantiser ≡ true
+  pub skip-inside-slice : keptBy m .«skip_inside_slice» ≡ true
+  pub skip-pattern : keptBy m .«skip_pattern» ≡ true

@@ -1,18 +1,17 @@
 // Commands: what a word begins, and the words of a MACROBLOCK command.
-mod answers;
 mod cases;
 mod headers;
 mod reading;
 mod rules;
 mod writing;
 
-pub use answers::earlier;
 pub use cases::case_of;
 pub use cases::motion_of;
 pub use headers::read_header;
 use prediction::Vector;
 pub use reading::macroblock_of;
 pub use rules::fault_of;
+pub use rules::kept_by;
 pub use writing::words_of;
 
 // The commands that have rules of their own.
@@ -78,8 +77,11 @@ pub struct Macroblock {
     pub flags: Flags,
 }
 
-// Accepted, or refused with document 01's number and place.
-pub enum Answer {
-    Accepted,
-    Refused(u8, u64),
+// Which of the rules of a macroblock hold that need no picture and not the form of its command.
+pub struct Kept {
+    pub intra_not_skipped: bool,
+    pub intra_pattern: bool,
+    pub quantiser: bool,
+    pub skip_inside_slice: bool,
+    pub skip_pattern: bool,
 }

@@ -1,4 +1,3 @@
-use borrow.Author.Tests.{lt-leb, le-leb}
 use borrow.Author.Needs.{needs}
 use Rattle.command.proofs.rules.type_permitted.Statement.{statement}
 use Rattle.command.proofs.rules.type_permitted.Tie as tie
@@ -17,11 +16,7 @@ returns : tie.Need-returns
 returns c = simp (← c .before .is-set .ensures, c .if1 .taken, c .before .before .bits .ensures)
 
 returns-2 : tie.Need-returns-2
-returns-2 c = simp (← c .before .before .is-set .ensures, c .before .if1 .left, ← c .before .before .before .bits .ensures, lt-leb _ _ (c .if2 .taken))
-
-returns-3 : tie.Need-returns-3
-returns-3 c = simp (← c .before .before .is-set .ensures, c .before .if1 .left, ← c .before .before .before .bits .ensures, le-leb _ _ (c .if2 .left))
+returns-2 c = simp (← c .before .is-set .ensures, c .if1 .left, c .before .before .bits .ensures)
 
 pub type-permitted-spec : {M : Type 1} → statement M
-type-permitted-spec =
-    tie.close (tie.spec bits-requires is-set-requires returns returns-2 returns-3)
+type-permitted-spec = tie.close (tie.spec bits-requires is-set-requires returns returns-2)

@@ -1,4 +1,4 @@
-use Rattle.command.proofs.Judging.{in-order}
+use Rattle.answers.proofs.Judging.{in-order}
 use mathlib.Core.Path.{sym, _∙_}
 use denote.Ref.{now}
 use borrow.Author.Tests.{eq-eqb, ne-eqb}

@@ -1,9 +1,14 @@
-// Which of two answers is given.
-use crate::Answer;
+// Answers of a check: accepted, or refused with a number and a place.
 ghost use mathlib.Core.Path.{_≡_};
-ghost use Rattle.command.specs.Answers.{earlier};
+ghost use Rattle.answers.specs.Answers.{earlier};
 
-// The one with the lower place, and of two at one place the one with the smaller number.
+// Accepted, or refused with document 01's number and place.
+pub enum Answer {
+    Accepted,
+    Refused(u8, u64),
+}
+
+// Of two answers the one that is given: the lower place, and of two at one place the one with the smaller number.
 pub fn earlier(a: Answer, b: Answer) -> Answer
     ensures { λ r. ⌜ r ≡ earlier a b ⌝ }
 {

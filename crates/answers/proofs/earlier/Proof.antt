@@ -1,12 +1,12 @@
 use mathlib.Core.Path.{sym, ap₂, _∙_}
 use borrow.Author.Tests.{lt-ltb, le-ltb}
-use Rattle.command.specs.Answers.{earlier}
-use Rattle.command.proofs.Judging.{before-place, after-place, same-place, takes-first, takes-second}
+use Rattle.answers.specs.Answers.{earlier}
+use Rattle.answers.proofs.Judging.{before-place, after-place, same-place, takes-first, takes-second}
 use borrow.Author.Needs.{needs}
-use Rattle.command.proofs.answers.earlier.Statement.{statement}
-use Rattle.command.proofs.answers.earlier.Tie as tie
-use Rattle.command.proofs.answers.earlier.Reads as reads
-use Rattle.command.proofs.answers.earlier.Lts as lts
+use Rattle.answers.proofs.earlier.Statement.{statement}
+use Rattle.answers.proofs.earlier.Tie as tie
+use Rattle.answers.proofs.earlier.Reads as reads
+use Rattle.answers.proofs.earlier.Lts as lts
 
 enum-known-a : tie.Need-enum-known-a
 enum-known-a c = search needs

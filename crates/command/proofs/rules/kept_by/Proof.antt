@@ -1,0 +1,17 @@
+use Rattle.command.specs.Rules.{keptBy}
+use borrow.Author.Needs.{needs}
+use Rattle.command.proofs.rules.kept_by.Statement.{statement}
+use Rattle.command.proofs.rules.kept_by.Tie as tie
+use Rattle.command.proofs.rules.kept_by.Reads as reads
+use Rattle.command.proofs.rules.kept_by.Lts as lts
+use Rattle.command.proofs.cases.is_intra.Reads as is-intra-reads
+
+is-intra-requires : tie.Need-is-intra-requires
+is-intra-requires c κs = search needs
+
+returns : tie.Need-returns
+unfolding keptBy
+returns c = cc
+
+pub kept-by-spec : {M : Type 1} → statement M
+kept-by-spec = tie.close (tie.spec is-intra-requires returns)
