@@ -15,7 +15,7 @@ use Rattle.prediction.specs.declared.Vector.{Vector}
 use Rattle.prediction.proofs.TwosComplement.{vector-back, vector-word-back, vector-fits, word-lt}
 use Rattle.command.specs.Cases.{byKind, motion, motionOf, caseOf, vectorWords}
 use Rattle.command.specs.Legal.{CaseFits, Words}
-use Rattle.command.specs.Macroblocks.{wordAt, isSet, flag, isIntra, intraType, typeOf}
+use Rattle.command.specs.Macroblocks.{wordAt, isSet, flag, intraType, typeOf}
 use Rattle.command.specs.declared.Prediction.the-variants.{Forward, Backward, Both}
 use Rattle.command.specs.declared.Case.{Case}
 use Rattle.command.specs.declared.Case.the-variants.{Intra, Inter}
@@ -101,12 +101,12 @@ vectors-words (Inter (Both f b)) h =
 pub type-back : (i t f b : ℕ)
     → i < 2
     → cond (isSet i) (eqb t intraType) (leb 1 t && leb t 3) ≡ true
-    → (typeOf (motionOf (caseOf (motion (cond (isSet i) 0 t) f b)) .kind) % 32 ≡ t) × (flag (isIntra (caseOf (motion (cond (isSet i) 0 t) f b))) % 2 ≡ i)
+    → (typeOf (motionOf (caseOf (motion (cond (isSet i) 0 t) f b)) .kind) % 32 ≡ t) × (flag (eqb (motionOf (caseOf (motion (cond (isSet i) 0 t) f b)) .kind) 0) % 2 ≡ i)
 unfolding caseOf motionOf
 type-back i t f b h p = by (isSet i) refl p
   where
     of : ℕ → ℕ → Type 0
-    of k u = (typeOf (motionOf (caseOf (motion k f b)) .kind) % 32 ≡ u) × (flag (isIntra (caseOf (motion k f b))) % 2 ≡ i)
+    of k u = (typeOf (motionOf (caseOf (motion k f b)) .kind) % 32 ≡ u) × (flag (eqb (motionOf (caseOf (motion k f b)) .kind) 0) % 2 ≡ i)
 
     inter : i ≡ 0 → (t ≡ 1) ⊎ ((t ≡ 2) ⊎ (t ≡ 3)) → of t t
     inter z (inl e) = subst (λ (k : ℕ). of k k) (sym e) (refl, sym z)

@@ -18,7 +18,7 @@ use Rattle.answers.specs.Answers.{Rule, judged}
 use Rattle.command.specs.Cases.{motion, motionOf, caseOf, vectorWords}
 use Rattle.command.specs.Legal.{Words, Command, CaseFits, Legal}
 use Rattle.command.specs.Macroblocks.{wordAt, isSet, flag, isIntra, intraType, kindIn, typeOf, motionIn, flagsIn, assembled, macroblockOf, fields1, fields2, fields3, fields4, wordsOf}
-use Rattle.command.specs.Rules.{keptBy, zeroBits, typePermitted, fieldRules, vectorRules, commandRules}
+use Rattle.command.specs.Rules.{keptBy, zeroBits, typePermitted, fieldRules, vectorRules, copied, commandRules}
 use Rattle.command.specs.declared.Case.{Case}
 use Rattle.command.specs.declared.Case.the-variants.{Intra, Inter}
 use Rattle.command.specs.declared.Prediction.the-variants.{Forward, Backward, Both}
@@ -59,13 +59,19 @@ permitted i t = cond (isSet i) (eqb t intraType) (leb 1 t && leb t 3)
 clear-zero : (fs : List Field) (h l : ℕ) → T (clear fs h l) → valueIn fs h l ≡ 0 → zeroBits (packed fs) h l ≡ true
 clear-zero fs h l t e = eq-eqb _ 0 (packed-field fs h l t ∙ e)
 
+abbrev copies : List ℕ → List Rule
+copies ws = vectorRules (copied ws 5 0) (copied ws 6 1) (copied ws 7 2) (copied ws 8 3)
+
+abbrev first : Macroblock → List Field
+first m = fields1 (m .upper) (motionOf (m .case) .kind) (m .skip)
+
 -- From a macroblock to its words and back.
 module _ (m : Macroblock) where
-  kind-back : kindIn (packed (fields1 m)) ≡ motionOf (m .case) .kind
+  kind-back : kindIn (packed (first m)) ≡ motionOf (m .case) .kind
   unfolding motionOf
-  kind-back = ap₂ (λ (i t : ℕ). cond (isSet i) 0 t) (packed-field (fields1 m) 13 13 tt) (packed-field (fields1 m) 12 8 tt) ∙ by (m .case)
+  kind-back = ap₂ (λ (i t : ℕ). cond (isSet i) 0 t) (packed-field (first m) 13 13 tt) (packed-field (first m) 12 8 tt) ∙ by (m .case)
     where
-      by : (c : Case) → cond (isSet (flag (isIntra c) % 2)) 0 (typeOf (motionOf c .kind) % 32) ≡ motionOf c .kind
+      by : (c : Case) → cond (isSet (flag (eqb (motionOf c .kind) 0) % 2)) 0 (typeOf (motionOf c .kind) % 32) ≡ motionOf c .kind
       by Intra = refl
       by (Inter (Forward f)) = refl
       by (Inter (Backward b)) = refl
@@ -93,21 +99,21 @@ module _ (m : Macroblock) where
       same-macroblock
       (packed-field (fields2 m) 15 0 tt ∙ mod-eq-of-lt (l .column-fits))
       (packed-field (fields2 m) 31 16 tt ∙ mod-eq-of-lt (l .row-fits))
-      (packed-field (fields1 m) 31 16 tt ∙ mod-eq-of-lt (l .upper-fits))
+      (packed-field (first m) 31 16 tt ∙ mod-eq-of-lt (l .upper-fits))
       (ap (λ (k : ℕ). caseOf (motion k (wordAt (vectorWords (motionOf (m .case))) 0) (wordAt (vectorWords (motionOf (m .case))) 1))) kind-back ∙ case-again (m .case) (l .case-fits))
-      (ap isSet (packed-field (fields1 m) 2 2 tt) ∙ flag-back (m .skip))
+      (ap isSet (packed-field (first m) 2 2 tt) ∙ flag-back (m .skip))
       (packed-field (fields3 m) 11 6 tt ∙ mod-eq-of-lt (l .pattern-fits))
       (packed-field (fields3 m) 31 24 tt ∙ mod-eq-of-lt (l .max-fits))
       (packed-field (fields3 m) 23 16 tt ∙ mod-eq-of-lt (l .target-fits))
       (packed-field (fields4 m) 4 0 tt ∙ mod-eq-of-lt (quantiser-lt l))
       flags-back
 
-  type-permitted : typePermitted (packed (fields1 m)) ≡ true
+  type-permitted : typePermitted (packed (first m)) ≡ true
   unfolding motionOf
   type-permitted =
-      ap₂ permitted (packed-field (fields1 m) 13 13 tt) (packed-field (fields1 m) 12 8 tt) ∙ by (m .case)
+      ap₂ permitted (packed-field (first m) 13 13 tt) (packed-field (first m) 12 8 tt) ∙ by (m .case)
     where
-      by : (c : Case) → permitted (flag (isIntra c) % 2) (typeOf (motionOf c .kind) % 32) ≡ true
+      by : (c : Case) → permitted (flag (eqb (motionOf c .kind) 0) % 2) (typeOf (motionOf c .kind) % 32) ≡ true
       by Intra = refl
       by (Inter (Forward f)) = refl
       by (Inter (Backward b)) = refl
@@ -119,10 +125,10 @@ module _ (m : Macroblock) where
       ap (λ (k : ℕ). vectorWords (motion k (wordAt (vectorWords (motionOf (m .case))) 0) (wordAt (vectorWords (motionOf (m .case))) 1))) kind-back
       ∙ copies-again (m .case)
 
-  hold-fields : Legal m → Hold (fieldRules (packed (fields1 m)) (packed (fields3 m)) (packed (fields4 m)) (keptBy m))
+  hold-fields : Legal m → Hold (fieldRules (packed (first m)) (packed (fields3 m)) (packed (fields4 m)) (keptBy m))
   unfolding fieldRules
   hold-fields l =
-      let clear1 = clear-zero (fields1 m) in
+      let clear1 = clear-zero (first m) in
       let fixed1 = both-true (clear1 15 14 tt refl) (both-true (clear1 7 3 tt refl) (clear1 1 0 tt refl)) in
       let fixed3 = both-true (clear-zero (fields3 m) 15 12 tt refl) (clear-zero (fields3 m) 5 0 tt refl) in
       let fixed4 = both-true (clear-zero (fields4 m) 29 28 tt refl) (clear-zero (fields4 m) 23 5 tt refl) in
@@ -130,27 +136,27 @@ module _ (m : Macroblock) where
       let skip = both-true (l .skip-inside-slice) (l .skip-pattern) in
       (fixed1, (permitted, (skip, (fixed3, (l .intra-pattern, (fixed4, (l .quantiser-permitted, tt)))))))
 
-  hold-vectors : Hold (vectorRules (wordsOf m) (vectorWords (motionIn (wordsOf m))))
+  hold-vectors : Hold (copies (wordsOf m))
   unfolding wordsOf vectorRules
   hold-vectors =
-      let copied : (i : ℕ) → eqb (wordAt (vectorWords (motionOf (m .case))) i) (wordAt (vectorWords (motionIn (wordsOf m))) i) ≡ true =
+      let same : (i : ℕ) → eqb (wordAt (vectorWords (motionOf (m .case))) i) (wordAt (vectorWords (motionIn (wordsOf m))) i) ≡ true =
       λ i. eq-eqb _ _ (sym (ap (λ (ws : List ℕ). wordAt ws i) copies-back)) in
-      (copied 0, (copied 1, (copied 2, (copied 3, tt))))
+      (same 0, (same 1, (same 2, (same 3, tt))))
 
   -- A legal macroblock's words are a command.
   pub words-kept : Legal m → Command (wordsOf m)
   unfolding wordsOf commandRules
   words-kept l =
-      let table : Macroblock → List Rule = λ n. fieldRules (packed (fields1 m)) (packed (fields3 m)) (packed (fields4 m)) (keptBy n) in
+      let table : Macroblock → List Rule = λ n. fieldRules (packed (first m)) (packed (fields3 m)) (packed (fields4 m)) (keptBy n) in
       let fields = subst (λ (n : Macroblock). Hold (table n)) (sym (macroblock-back l)) (hold-fields l) in
       let vectors = vectors-words (m .case) (l .case-fits) in
       record {
         nine = ap (λ (n : ℕ). suc (suc (suc (suc (suc n))))) (vectors-four (motionOf (m .case)));
-        words = (omega arith, (packed-lt (fields1 m), (packed-lt (fields2 m), (packed-lt (fields3 m), (packed-lt (fields4 m), vectors)))));
+        words = (omega arith, (packed-lt (first m), (packed-lt (fields2 m), (packed-lt (fields3 m), (packed-lt (fields4 m), vectors)))));
         header = refl;
         kept =
             none-broken (commandRules (wordsOf m))
-            (hold-both (table (macroblockOf (wordsOf m))) (vectorRules (wordsOf m) (vectorWords (motionIn (wordsOf m)))) fields hold-vectors);
+            (hold-both (table (macroblockOf (wordsOf m))) (copies (wordsOf m)) fields hold-vectors);
       }
 
 -- From a command's words to its macroblock and back.
@@ -177,9 +183,9 @@ module _ (ws : List ℕ) (c : Command ws) where
   abbrev w : ℕ → ℕ
   w i = wordAt ws i
 
-  rules : Hold (fieldRules (w 1) (w 3) (w 4) (keptBy m)) × Hold (vectorRules ws (vectorWords (motionIn ws)))
+  rules : Hold (fieldRules (w 1) (w 3) (w 4) (keptBy m)) × Hold (copies ws)
   unfolding commandRules
-  rules = hold-each (fieldRules (w 1) (w 3) (w 4) (keptBy m)) (vectorRules ws (vectorWords (motionIn ws))) (all-hold (commandRules ws) (c .kept))
+  rules = hold-each (fieldRules (w 1) (w 3) (w 4) (keptBy m)) (copies ws) (all-hold (commandRules ws) (c .kept))
 
   -- A command's macroblock is legal.
   pub macroblock-legal : Legal (macroblockOf ws)
@@ -209,7 +215,7 @@ module _ (ws : List ℕ) (c : Command ws) where
   both-none i hi lo h l e =
       (none i hi lo (and-left (zeroBits (w i) hi lo) (zeroBits (w i) h l) e), none i h l (and-right (zeroBits (w i) hi lo) (zeroBits (w i) h l) e))
 
-  word1-back : packed (fields1 m) ≡ w 1
+  word1-back : packed (first m) ≡ w 1
   unfolding macroblockOf fieldRules
   word1-back =
       let h = rules .0 in
@@ -217,7 +223,7 @@ module _ (ws : List ℕ) (c : Command ws) where
       let low = both-none 1 7 3 1 0 (and-right (zeroBits (w 1) 15 14) (zeroBits (w 1) 7 3 && zeroBits (w 1) 1 0) (h .0)) in
       let typed-right = and-left (typePermitted (w 1)) (keptBy m .«intra_not_skipped») (h .1 .0) in
       let typed = type-back (bits (w 1) 13 13) (bits (w 1) 12 8) (w 5) (w 6) (bits-lt (w 1) 13 13) typed-right in
-      packed-is (fields1 m) (w 1) (piece 1 0 ∷ piece 2 2 ∷ piece 7 3 ∷ piece 12 8 ∷ piece 13 13 ∷ piece 15 14 ∷ piece 31 16 ∷ []) (word-below ws (c .words) 1) tt (
+      packed-is (first m) (w 1) (piece 1 0 ∷ piece 2 2 ∷ piece 7 3 ∷ piece 12 8 ∷ piece 13 13 ∷ piece 15 14 ∷ piece 31 16 ∷ []) (word-below ws (c .words) 1) tt (
         low .1,
         (
           bit-back (bits (w 1) 2 2) (bits-lt (w 1) 2 2),

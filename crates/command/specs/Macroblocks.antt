@@ -76,13 +76,8 @@ unfoldable pub macroblockOf : List ℕ → Macroblock
 macroblockOf ws = assembled (wordAt ws 1) (wordAt ws 2) (wordAt ws 3) (wordAt ws 4) (caseOf (motionIn ws))
 
 -- The fields of words 1 to 4; every other bit is zero.
-abbrev pub fields1 : Macroblock → List Field
-fields1 m =
-    field 31 16 (m .upper)
-    ∷ field 13 13 (flag (isIntra (m .case)))
-    ∷ field 12 8 (typeOf (motionOf (m .case) .kind))
-    ∷ field 2 2 (flag (m .skip))
-    ∷ []
+abbrev pub fields1 : ℕ → ℕ → Bool → List Field
+fields1 upper kind skip = field 31 16 upper ∷ field 13 13 (flag (eqb kind 0)) ∷ field 12 8 (typeOf kind) ∷ field 2 2 (flag skip) ∷ []
 
 abbrev pub fields2 : Macroblock → List Field
 fields2 m = field 31 16 (m .row) ∷ field 15 0 (m .column) ∷ []
@@ -105,7 +100,7 @@ fields4 m =
 unfoldable pub wordsOf : Macroblock → List ℕ
 wordsOf m =
     macroblockHeader
-    ∷ packed (fields1 m)
+    ∷ packed (fields1 (m .upper) (motionOf (m .case) .kind) (m .skip))
     ∷ packed (fields2 m)
     ∷ packed (fields3 m)
     ∷ packed (fields4 m)

@@ -50,17 +50,16 @@ fieldRules w1 w3 w4 kept =
     ∷ rule 5 4 (kept .quantiser)
     ∷ []
 
--- Words 5 to 8, against the vectors that are there and the copies in place of those that are missing.
-unfoldable pub vectorRules : List ℕ → List ℕ → List Rule
-vectorRules ws vectors =
-    rule 8 5 (eqb (wordAt ws 5) (wordAt vectors 0))
-    ∷ rule 8 6 (eqb (wordAt ws 6) (wordAt vectors 1))
-    ∷ rule 8 7 (eqb (wordAt ws 7) (wordAt vectors 2))
-    ∷ rule 8 8 (eqb (wordAt ws 8) (wordAt vectors 3))
-    ∷ []
+-- Words 5 to 8: whether each is the vector that is there, or the copy in place of one that is missing.
+unfoldable pub vectorRules : Bool → Bool → Bool → Bool → List Rule
+vectorRules five six seven eight = rule 8 5 five ∷ rule 8 6 six ∷ rule 8 7 seven ∷ rule 8 8 eight ∷ []
+
+abbrev pub copied : List ℕ → ℕ → ℕ → Bool
+copied ws i j = eqb (wordAt ws i) (wordAt (vectorWords (motionIn ws)) j)
 
 -- What a command keeps by itself: "4, 5 (without picture type), 8 and the first two skip rules". A picture's rules are further
 -- tables beside these; `judged` takes them in the order of their words and numbers.
 unfoldable pub commandRules : List ℕ → List Rule
 commandRules ws =
-    fieldRules (wordAt ws 1) (wordAt ws 3) (wordAt ws 4) (keptBy (macroblockOf ws)) ++ vectorRules ws (vectorWords (motionIn ws))
+    fieldRules (wordAt ws 1) (wordAt ws 3) (wordAt ws 4) (keptBy (macroblockOf ws))
+    ++ vectorRules (copied ws 5 0) (copied ws 6 1) (copied ws 7 2) (copied ws 8 3)

@@ -7,7 +7,7 @@ use crate::writing;
 use answers::Answer;
 ghost use mathlib.Core.Path.{_≡_};
 ghost use Rattle.answers.specs.Answers.{judged};
-ghost use Rattle.command.specs.Rules.{keptBy, zeroBits, typePermitted, fieldRules, vectorRules, commandRules};
+ghost use Rattle.command.specs.Rules.{keptBy, zeroBits, typePermitted, fieldRules, vectorRules, copied, commandRules};
 
 // Which rules of the macroblock itself hold.
 pub fn kept_by(macroblock: Macroblock) -> Kept
@@ -78,23 +78,35 @@ fn field_fault(one: u32, three: u32, four: u32, kept: Kept) -> Answer
     Answer::Accepted
 }
 
-// Words 5 to 8.
-fn vector_fault(words: &[u32], vectors: [u32; 4]) -> Answer
-    ensures { λ r. ⌜ r ≡ judged (vectorRules (now (words .entry)) vectors) ⌝ }
+// Words 5 to 8, from whether each is as it should be.
+fn vector_fault(five: bool, six: bool, seven: bool, eight: bool) -> Answer
+    ensures { λ r. ⌜ r ≡ judged (vectorRules five six seven eight) ⌝ }
 {
-    if reading::word_at(words, 5) != vectors[0] {
+    if !five {
         return Answer::Refused(8, 5);
     }
-    if reading::word_at(words, 6) != vectors[1] {
+    if !six {
         return Answer::Refused(8, 6);
     }
-    if reading::word_at(words, 7) != vectors[2] {
+    if !seven {
         return Answer::Refused(8, 7);
     }
-    if reading::word_at(words, 8) != vectors[3] {
+    if !eight {
         return Answer::Refused(8, 8);
     }
     Answer::Accepted
+}
+
+// Whether words 5 to 8 are the vectors and copies that their kind asks for.
+fn copies_fault(words: &[u32]) -> Answer
+    ensures { λ r. ⌜ r ≡ judged (vectorRules (copied (now (words .entry)) 5 0) (copied (now (words .entry)) 6 1) (copied (now (words .entry)) 7 2) (copied (now (words .entry)) 8 3)) ⌝ }
+{
+    let vectors = writing::vector_words(reading::motion_in(words));
+    let five = reading::word_at(words, 5) == vectors[0];
+    let six = reading::word_at(words, 6) == vectors[1];
+    let seven = reading::word_at(words, 7) == vectors[2];
+    let eight = reading::word_at(words, 8) == vectors[3];
+    vector_fault(five, six, seven, eight)
 }
 
 // The first rule that a MACROBLOCK command breaks by itself, with its word as the place.
@@ -105,7 +117,6 @@ pub fn fault_of(words: &[u32]) -> Answer
     let one = reading::word_at(words, 1);
     let three = reading::word_at(words, 3);
     let four = reading::word_at(words, 4);
-    let vectors = writing::vector_words(reading::motion_in(words));
-    let copies = vector_fault(words, vectors);
-    answers::earlier(field_fault(one, three, four, kept), copies)
+    let fields = field_fault(one, three, four, kept);
+    answers::earlier(fields, copies_fault(words))
 }

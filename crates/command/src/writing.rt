@@ -38,19 +38,13 @@ fn type_of(kind: u8) -> u32
     kind as u32
 }
 
-fn word1_of(macroblock: Macroblock) -> u32
-    ensures { λ r. ⌜ r ≡ packed (fields1 macroblock) ⌝ }
+fn word1_of(upper: u16, kind: u8, skip: bool) -> u32
+    ensures { λ r. ⌜ r ≡ packed (fields1 upper kind skip) ⌝ }
 {
-    let case = macroblock.case;
-    let motion = cases::motion_of(case);
-    let skip = flag_of(macroblock.skip);
-    let kind = type_of(motion.kind);
-    let intra = flag_of(cases::is_intra(case));
-    let upper = macroblock.upper as u32;
-    let to2 = fields::with_bits(0, 2, 2, skip);
-    let to12 = fields::with_bits(to2, 12, 8, kind);
-    let to13 = fields::with_bits(to12, 13, 13, intra);
-    fields::with_bits(to13, 31, 16, upper)
+    let to2 = fields::with_bits(0, 2, 2, flag_of(skip));
+    let to12 = fields::with_bits(to2, 12, 8, type_of(kind));
+    let to13 = fields::with_bits(to12, 13, 13, flag_of(kind == 0));
+    fields::with_bits(to13, 31, 16, upper as u32)
 }
 
 fn word2_of(macroblock: Macroblock) -> u32
@@ -92,10 +86,12 @@ pub fn words_of(macroblock: Macroblock) -> [u32; 9]
     ensures { λ r. ⌜ r ≡ wordsOf macroblock ⌝ }
 {
     let case = macroblock.case;
-    let vectors = vector_words(cases::motion_of(case));
+    let motion = cases::motion_of(case);
+    let vectors = vector_words(motion);
+    let word1 = word1_of(macroblock.upper, motion.kind, macroblock.skip);
     [
         0x7349_0007,
-        word1_of(macroblock),
+        word1,
         word2_of(macroblock),
         word3_of(macroblock),
         word4_of(macroblock),

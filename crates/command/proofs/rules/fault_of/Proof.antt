@@ -1,8 +1,7 @@
 use denote.Ref.{now}
 use Rattle.answers.proofs.Judging.{judged-append}
-use Rattle.command.specs.Cases.{vectorWords}
-use Rattle.command.specs.Macroblocks.{wordAt, motionIn, macroblockOf}
-use Rattle.command.specs.Rules.{keptBy, fieldRules, vectorRules, commandRules}
+use Rattle.command.specs.Macroblocks.{wordAt, macroblockOf}
+use Rattle.command.specs.Rules.{keptBy, fieldRules, vectorRules, copied, commandRules}
 use borrow.Author.Needs.{needs}
 use Rattle.command.proofs.rules.fault_of.Statement.{statement}
 use Rattle.command.proofs.rules.fault_of.Tie as tie
@@ -10,12 +9,10 @@ use Rattle.command.proofs.rules.fault_of.Reads as reads
 use Rattle.command.proofs.rules.fault_of.Lts as lts
 use Rattle.answers.proofs.earlier.Reads as earlier-reads
 use Rattle.command.proofs.reading.macroblock_of.Reads as macroblock-of-reads
-use Rattle.command.proofs.reading.motion_in.Reads as motion-in-reads
 use Rattle.command.proofs.reading.word_at.Reads as word-at-reads
+use Rattle.command.proofs.rules.copies_fault.Reads as copies-fault-reads
 use Rattle.command.proofs.rules.field_fault.Reads as field-fault-reads
 use Rattle.command.proofs.rules.kept_by.Reads as kept-by-reads
-use Rattle.command.proofs.rules.vector_fault.Reads as vector-fault-reads
-use Rattle.command.proofs.writing.vector_words.Reads as vector-words-reads
 
 macroblock-of-requires : tie.Need-macroblock-of-requires
 macroblock-of-requires c κs = search needs
@@ -32,17 +29,11 @@ word-at-requires-2 c κs = search needs
 word-at-requires-3 : tie.Need-word-at-requires-3
 word-at-requires-3 c κs = search needs
 
-motion-in-requires : tie.Need-motion-in-requires
-motion-in-requires c κs = search needs
-
-vector-words-requires : tie.Need-vector-words-requires
-vector-words-requires c κs = search needs
-
-vector-fault-requires : tie.Need-vector-fault-requires
-vector-fault-requires c κs = search needs
-
 field-fault-requires : tie.Need-field-fault-requires
 field-fault-requires c κs = search needs
+
+copies-fault-requires : tie.Need-copies-fault-requires
+copies-fault-requires c κs = search needs
 
 earlier-requires : tie.Need-earlier-requires
 earlier-requires c κs = search needs
@@ -50,8 +41,8 @@ earlier-requires c κs = search needs
 returns : tie.Need-returns
 unfolding commandRules
 returns c =
-    let ws = now (c .before .before .before .before .before .before .before .before .before .before .before .args .words) in
-    let both = judged-append (fieldRules (wordAt ws 1) (wordAt ws 3) (wordAt ws 4) (keptBy (macroblockOf ws))) (vectorRules ws (vectorWords (motionIn ws))) in
+    let ws = now (c .before .before .before .before .before .before .before .before .before .args .words) in
+    let both = judged-append (fieldRules (wordAt ws 1) (wordAt ws 3) (wordAt ws 4) (keptBy (macroblockOf ws))) (vectorRules (copied ws 5 0) (copied ws 6 1) (copied ws 7 2) (copied ws 8 3)) in
     cc
 
 pub fault-of-spec : {M : Type 1} → statement M
@@ -63,9 +54,7 @@ fault-of-spec =
     word-at-requires
     word-at-requires-2
     word-at-requires-3
-    motion-in-requires
-    vector-words-requires
-    vector-fault-requires
     field-fault-requires
+    copies-fault-requires
     earlier-requires
     returns)

@@ -3,35 +3,24 @@ use Rattle.command.proofs.writing.word1_of.Statement.{statement}
 use Rattle.command.proofs.writing.word1_of.Tie as tie
 use Rattle.command.proofs.writing.word1_of.Reads as reads
 use Rattle.command.proofs.writing.word1_of.Lts as lts
-use Rattle.command.proofs.cases.is_intra.Reads as is-intra-reads
-use Rattle.command.proofs.cases.motion_of.Reads as motion-of-reads
 use Rattle.command.proofs.writing.flag_of.Reads as flag-of-reads
 use Rattle.command.proofs.writing.type_of.Reads as type-of-reads
 use Rattle.fields.proofs.with_bits.Reads as with-bits-reads
 
-motion-of-requires : tie.Need-motion-of-requires
-motion-of-requires c κs = search needs
-
 flag-of-requires : tie.Need-flag-of-requires
 flag-of-requires c κs = search needs
-
-type-of-requires : tie.Need-type-of-requires
-type-of-requires c κs = search needs
-
-is-intra-requires : tie.Need-is-intra-requires
-is-intra-requires c κs = search needs
-
-flag-of-requires-2 : tie.Need-flag-of-requires-2
-flag-of-requires-2 c κs = search needs
-
-cast-upper : tie.Need-cast-upper
-cast-upper c = search needs
 
 with-bits-requires : tie.Need-with-bits-requires
 with-bits-requires c κs = search needs
 
+type-of-requires : tie.Need-type-of-requires
+type-of-requires c κs = search needs
+
 with-bits-requires-2 : tie.Need-with-bits-requires-2
 with-bits-requires-2 c κs = search needs
+
+flag-of-requires-2 : tie.Need-flag-of-requires-2
+flag-of-requires-2 c κs = search needs
 
 with-bits-requires-3 : tie.Need-with-bits-requires-3
 with-bits-requires-3 c κs = search needs
@@ -46,14 +35,11 @@ pub word1-of-spec : {M : Type 1} → statement M
 word1-of-spec =
     tie.close
     (tie.spec
-    motion-of-requires
     flag-of-requires
-    type-of-requires
-    is-intra-requires
-    flag-of-requires-2
-    cast-upper
     with-bits-requires
+    type-of-requires
     with-bits-requires-2
+    flag-of-requires-2
     with-bits-requires-3
     with-bits-requires-4
     returns)

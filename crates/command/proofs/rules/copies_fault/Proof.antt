@@ -1,0 +1,62 @@
+use borrow.Author.Needs.{needs}
+use Rattle.command.proofs.rules.copies_fault.Statement.{statement}
+use Rattle.command.proofs.rules.copies_fault.Tie as tie
+use Rattle.command.proofs.rules.copies_fault.Reads as reads
+use Rattle.command.proofs.rules.copies_fault.Lts as lts
+use Rattle.command.proofs.reading.motion_in.Reads as motion-in-reads
+use Rattle.command.proofs.reading.word_at.Reads as word-at-reads
+use Rattle.command.proofs.rules.vector_fault.Reads as vector-fault-reads
+use Rattle.command.proofs.writing.vector_words.Reads as vector-words-reads
+
+motion-in-requires : tie.Need-motion-in-requires
+motion-in-requires c κs = search needs
+
+vector-words-requires : tie.Need-vector-words-requires
+vector-words-requires c κs = search needs
+
+word-at-requires : tie.Need-word-at-requires
+word-at-requires c κs = search needs
+
+array-read-five : tie.Need-array-read-five
+array-read-five c = search needs
+
+word-at-requires-2 : tie.Need-word-at-requires-2
+word-at-requires-2 c κs = search needs
+
+array-read-six : tie.Need-array-read-six
+array-read-six c = search needs
+
+word-at-requires-3 : tie.Need-word-at-requires-3
+word-at-requires-3 c κs = search needs
+
+array-read-seven : tie.Need-array-read-seven
+array-read-seven c = search needs
+
+word-at-requires-4 : tie.Need-word-at-requires-4
+word-at-requires-4 c κs = search needs
+
+array-read-eight : tie.Need-array-read-eight
+array-read-eight c = search needs
+
+vector-fault-requires : tie.Need-vector-fault-requires
+vector-fault-requires c κs = search needs
+
+returns : tie.Need-returns
+returns c = cc
+
+pub copies-fault-spec : {M : Type 1} → statement M
+copies-fault-spec =
+    tie.close
+    (tie.spec
+    motion-in-requires
+    vector-words-requires
+    word-at-requires
+    array-read-five
+    word-at-requires-2
+    array-read-six
+    word-at-requires-3
+    array-read-seven
+    word-at-requires-4
+    array-read-eight
+    vector-fault-requires
+    returns)
