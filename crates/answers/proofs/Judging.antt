@@ -107,7 +107,7 @@ abbrev pub firstBroken : List Rule → Answer
 firstBroken [] = Accepted
 firstBroken (r ∷ rs) = cond (r .holds) (firstBroken rs) (Refused (r .number) (r .place))
 
-abbrev after : ℕ → ℕ → List Rule → Bool
+abbrev pub after : ℕ → ℕ → List Rule → Bool
 after n p [] = true
 after n p (r ∷ rs) = not (before (r .number) (r .place) n p) && after n p rs
 

@@ -15,7 +15,8 @@ use Rattle.prediction.specs.declared.Vector.{Vector}
 use Rattle.prediction.proofs.TwosComplement.{vector-back, vector-word-back, vector-fits, word-lt}
 use Rattle.command.specs.Cases.{byKind, motion, motionOf, caseOf, vectorWords}
 use Rattle.command.specs.Legal.{CaseFits, Words}
-use Rattle.command.specs.Macroblocks.{wordAt, isSet, flag, intraType, typeOf}
+use Rattle.fields.specs.Word.{isSet, flag}
+use Rattle.command.specs.Macroblocks.{wordAt, intraType, typeOf}
 use Rattle.command.specs.declared.Prediction.the-variants.{Forward, Backward, Both}
 use Rattle.command.specs.declared.Case.{Case}
 use Rattle.command.specs.declared.Case.the-variants.{Intra, Inter}
@@ -63,6 +64,14 @@ module _ (f b : ℕ) (hf : f < 2 ^ 32) (hb : b < 2 ^ 32) where
 pub vectors-again : (m : Motion) → m .forward < 2 ^ 32 → m .backward < 2 ^ 32 → vectorWords (motionOf (caseOf m)) ≡ vectorWords m
 unfolding caseOf vectorWords
 vectors-again m hf hb = same-vectors (m .forward) (m .backward) hf hb (eqb (m .kind) 1) (eqb (m .kind) 2) (eqb (m .kind) 3)
+
+-- The kind of a case is one of the four.
+pub kind-most : (c : Case) → motionOf c .kind ≤ 3
+unfolding motionOf
+kind-most Intra = omega arith
+kind-most (Inter (Forward f)) = omega arith
+kind-most (Inter (Backward b)) = omega arith
+kind-most (Inter (Both f b)) = omega arith
 
 -- A case, from its kind and its words 5 and 6.
 pub case-again : (c : Case) → CaseFits c → caseOf (motion (motionOf c .kind) (wordAt (vectorWords (motionOf c)) 0) (wordAt (vectorWords (motionOf c)) 1)) ≡ c

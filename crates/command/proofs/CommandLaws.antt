@@ -10,14 +10,14 @@ use borrow.Author.Tests.{eqb-true, eqb-false, leb-true, eq-eqb}
 use lib.Dec.{T, eqb, leb, eqb→eq}
 use lib.ListN.{length}
 use lib.Pow.{pow-pos}
-use Rattle.fields.specs.Word.{Field, width, bits, packed}
+use Rattle.fields.specs.Word.{Field, width, bits, packed, isSet, flag}
 use Rattle.fields.specs.Bytes.{elements}
 use Rattle.fields.proofs.Elements.{elements-all}
 use Rattle.fields.proofs.Packing.{valueIn, clear, piece, packed-field, packed-lt, packed-is, bits-cut}
 use Rattle.answers.specs.Answers.{Rule, judged}
 use Rattle.command.specs.Cases.{motion, motionOf, caseOf, vectorWords}
 use Rattle.command.specs.Legal.{Words, Command, CaseFits, Legal}
-use Rattle.command.specs.Macroblocks.{wordAt, isSet, flag, isIntra, intraType, kindIn, typeOf, motionIn, flagsIn, assembled, macroblockOf, fields1, fields2, fields3, fields4, wordsOf}
+use Rattle.command.specs.Macroblocks.{wordAt, isIntra, intraType, kindIn, typeOf, motionIn, flagsIn, assembled, macroblockOf, fields1, fields2, fields3, fields4, wordsOf}
 use Rattle.command.specs.Rules.{keptBy, zeroBits, typePermitted, fieldRules, vectorRules, copied, commandRules}
 use Rattle.command.specs.declared.Case.{Case}
 use Rattle.command.specs.declared.Case.the-variants.{Intra, Inter}

@@ -4,7 +4,7 @@ use mathlib.Core.Bool.{Bool, true, false, cond}
 use mathlib.Core.List.{List, [], _∷_}
 use lib.Dec.{eqb}
 use lib.ListN.{getD}
-use Rattle.fields.specs.Word.{Field, bits, field, packed}
+use Rattle.fields.specs.Word.{Field, bits, isSet, flag, field, packed}
 use Rattle.command.specs.Headers.{macroblockHeader}
 use Rattle.command.specs.Cases.{motion, motionOf, caseOf, vectorWords}
 use Rattle.command.specs.declared.Case.{Case}
@@ -16,14 +16,6 @@ use Rattle.command.specs.declared.Motion.{Motion}
 -- A word of a command by its number from the header, which is 0. A word that is not there counts as 0.
 abbrev pub wordAt : List ℕ → ℕ → ℕ
 wordAt ws i = getD ws i 0
-
--- A bit as a flag, and a flag as a bit.
-abbrev pub isSet : ℕ → Bool
-isSet b = eqb b 1
-
-abbrev pub flag : Bool → ℕ
-flag true = 1
-flag false = 0
 
 abbrev pub isIntra : Case → Bool
 isIntra Intra = true

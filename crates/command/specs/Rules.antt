@@ -3,10 +3,10 @@ use Prim.Native.Nat.{ℕ}
 use mathlib.Core.Bool.{Bool, cond, not, _&&_, _||_}
 use mathlib.Core.List.{List, [], _∷_, _++_}
 use lib.Dec.{eqb, leb}
-use Rattle.fields.specs.Word.{bits}
+use Rattle.fields.specs.Word.{bits, isSet}
 use Rattle.answers.specs.Answers.{Rule, rule}
 use Rattle.command.specs.Cases.{vectorWords}
-use Rattle.command.specs.Macroblocks.{wordAt, isSet, isIntra, intraType, motionIn, macroblockOf}
+use Rattle.command.specs.Macroblocks.{wordAt, isIntra, intraType, motionIn, macroblockOf}
 use Rattle.command.specs.declared.Kept.{Kept}
 use Rattle.command.specs.declared.Macroblock.{Macroblock}
 

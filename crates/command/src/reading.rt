@@ -5,8 +5,7 @@ use crate::Macroblock;
 use crate::Motion;
 use crate::cases;
 ghost use mathlib.Core.Path.{_≡_};
-ghost use Rattle.fields.specs.Word.{bits};
-ghost use Rattle.command.specs.Macroblocks.{wordAt, isSet, kindIn, flagsIn, motionIn, assembled, macroblockOf};
+ghost use Rattle.command.specs.Macroblocks.{wordAt, kindIn, flagsIn, motionIn, assembled, macroblockOf};
 
 // A word of a command, 0 where there is none.
 pub(crate) fn word_at(words: &[u32], i: usize) -> u32
@@ -15,18 +14,11 @@ pub(crate) fn word_at(words: &[u32], i: usize) -> u32
     if i < words.len() { words[i] } else { 0 }
 }
 
-// Whether a bit of a word is 1.
-pub(crate) fn is_set(word: u32, bit: u8) -> bool
-    ensures { λ r. ⌜ r ≡ isSet (bits word bit bit) ⌝ }
-{
-    fields::bits(word, bit, bit) == 1
-}
-
 // The kind that word 1 gives, a number that is no kind among them.
 fn kind_in(word1: u32) -> u8
     ensures { λ r. ⌜ r ≡ kindIn word1 ⌝ }
 {
-    if is_set(word1, 13) {
+    if fields::is_set(word1, 13) {
         return 0;
     }
     fields::bits(word1, 12, 8) as u8
@@ -50,12 +42,12 @@ fn flags_in(word4: u32) -> Flags
     ensures { λ r. ⌜ r ≡ flagsIn word4 ⌝ }
 {
     Flags {
-        first_in_slice: is_set(word4, 30),
-        last_in_slice: is_set(word4, 31),
-        first_in_group: is_set(word4, 24),
-        last_in_group: is_set(word4, 26),
-        clamp: is_set(word4, 27),
-        no_skip_conversion: is_set(word4, 25),
+        first_in_slice: fields::is_set(word4, 30),
+        last_in_slice: fields::is_set(word4, 31),
+        first_in_group: fields::is_set(word4, 24),
+        last_in_group: fields::is_set(word4, 26),
+        clamp: fields::is_set(word4, 27),
+        no_skip_conversion: fields::is_set(word4, 25),
     }
 }
 
@@ -69,7 +61,7 @@ fn assembled(one: u32, two: u32, three: u32, four: u32, case: Case) -> Macrobloc
         row: fields::bits(two, 31, 16) as u16,
         upper: fields::bits(one, 31, 16) as u16,
         case,
-        skip: is_set(one, 2),
+        skip: fields::is_set(one, 2),
         pattern: fields::bits(three, 11, 6) as u8,
         max_size: fields::bits(three, 31, 24) as u8,
         target_size: fields::bits(three, 23, 16) as u8,

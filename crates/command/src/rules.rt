@@ -39,7 +39,7 @@ fn type_permitted(word: u32) -> bool
     ensures { λ r. ⌜ r ≡ typePermitted word ⌝ }
 {
     let kind = fields::bits(word, 12, 8);
-    if reading::is_set(word, 13) {
+    if fields::is_set(word, 13) {
         return kind == 0x1a;
     }
     (1 <= kind) & (kind <= 3)

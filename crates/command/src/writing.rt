@@ -5,13 +5,7 @@ use crate::cases;
 ghost use mathlib.Core.Path.{_≡_};
 ghost use Rattle.fields.specs.Word.{packed};
 ghost use Rattle.command.specs.Cases.{vectorWords};
-ghost use Rattle.command.specs.Macroblocks.{flag, typeOf, fields1, fields2, fields3, fields4, wordsOf};
-
-fn flag_of(set: bool) -> u32
-    ensures { λ r. ⌜ r ≡ flag set ⌝ }
-{
-    if set { 1 } else { 0 }
-}
+ghost use Rattle.command.specs.Macroblocks.{typeOf, fields1, fields2, fields3, fields4, wordsOf};
 
 // Words 5 to 8.
 pub(crate) fn vector_words(motion: Motion) -> [u32; 4]
@@ -41,9 +35,9 @@ fn type_of(kind: u8) -> u32
 fn word1_of(upper: u16, kind: u8, skip: bool) -> u32
     ensures { λ r. ⌜ r ≡ packed (fields1 upper kind skip) ⌝ }
 {
-    let to2 = fields::with_bits(0, 2, 2, flag_of(skip));
+    let to2 = fields::with_bits(0, 2, 2, fields::flag_of(skip));
     let to12 = fields::with_bits(to2, 12, 8, type_of(kind));
-    let to13 = fields::with_bits(to12, 13, 13, flag_of(kind == 0));
+    let to13 = fields::with_bits(to12, 13, 13, fields::flag_of(kind == 0));
     fields::with_bits(to13, 31, 16, upper as u32)
 }
 
@@ -73,12 +67,12 @@ fn word4_of(macroblock: Macroblock) -> u32
     let quantiser = macroblock.quantiser as u32;
     let flags = macroblock.flags;
     let to4 = fields::with_bits(0, 4, 0, quantiser);
-    let to24 = fields::with_bits(to4, 24, 24, flag_of(flags.first_in_group));
-    let to25 = fields::with_bits(to24, 25, 25, flag_of(flags.no_skip_conversion));
-    let to26 = fields::with_bits(to25, 26, 26, flag_of(flags.last_in_group));
-    let to27 = fields::with_bits(to26, 27, 27, flag_of(flags.clamp));
-    let to30 = fields::with_bits(to27, 30, 30, flag_of(flags.first_in_slice));
-    fields::with_bits(to30, 31, 31, flag_of(flags.last_in_slice))
+    let to24 = fields::with_bits(to4, 24, 24, fields::flag_of(flags.first_in_group));
+    let to25 = fields::with_bits(to24, 25, 25, fields::flag_of(flags.no_skip_conversion));
+    let to26 = fields::with_bits(to25, 26, 26, fields::flag_of(flags.last_in_group));
+    let to27 = fields::with_bits(to26, 27, 27, fields::flag_of(flags.clamp));
+    let to30 = fields::with_bits(to27, 30, 30, fields::flag_of(flags.first_in_slice));
+    fields::with_bits(to30, 31, 31, fields::flag_of(flags.last_in_slice))
 }
 
 // The nine words of a macroblock's command.

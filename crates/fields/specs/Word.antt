@@ -1,6 +1,8 @@
 -- The bits of a 32-bit word, as document 01 writes them: `31:16` are bits 31 down to 16.
 use Prim.Native.Nat.{ℕ, _+_, _*_, _-_, _/_, _%_, _^_, min}
+use mathlib.Core.Bool.{Bool, true, false}
 use mathlib.Core.List.{List, [], _∷_}
+use lib.Dec.{eqb}
 use Rattle.fields.specs.declared.Halves.{Halves}
 
 -- How many bits `hi:lo` names: hi + 1 - lo, but a word has none above bit 31. None where hi is below lo.
@@ -15,6 +17,14 @@ bits word hi lo = word / 2 ^ lo % 2 ^ width hi lo
 abbrev pub withBits : ℕ → ℕ → ℕ → ℕ → ℕ
 withBits word hi lo value =
     word / 2 ^ (width hi lo + lo) * 2 ^ (width hi lo + lo) + value % 2 ^ width hi lo * 2 ^ lo + word % 2 ^ lo
+
+-- One bit as a flag, and a flag as a bit.
+abbrev pub isSet : ℕ → Bool
+isSet b = eqb b 1
+
+abbrev pub flag : Bool → ℕ
+flag true = 1
+flag false = 0
 
 -- A field and what it holds: bits `hi:lo` have the value.
 pub record Field : Type 0 where

@@ -2,7 +2,7 @@
 use crate::Halves;
 ghost use mathlib.Core.Path.{_≡_};
 ghost use Prim.Native.Nat.{_-_, _^_, _≤_};
-ghost use Rattle.fields.specs.Word.{width, bits, withBits, halvesOf, wordOfHalves};
+ghost use Rattle.fields.specs.Word.{width, bits, withBits, isSet, flag, halvesOf, wordOfHalves};
 
 // How many bits hi:lo names.
 fn width_of(hi: u8, lo: u8) -> u8
@@ -40,6 +40,20 @@ pub fn bits(word: u32, hi: u8, lo: u8) -> u32
         return 0;
     }
     (word >> lo) & ones(n)
+}
+
+// Whether a bit of a word is 1.
+pub fn is_set(word: u32, bit: u8) -> bool
+    ensures { λ r. ⌜ r ≡ isSet (bits word bit bit) ⌝ }
+{
+    bits(word, bit, bit) == 1
+}
+
+// A flag as a bit.
+pub fn flag_of(set: bool) -> u32
+    ensures { λ r. ⌜ r ≡ flag set ⌝ }
+{
+    if set { 1 } else { 0 }
 }
 
 // The word with the lowest bits of value in hi:lo, and its other bits as they were.

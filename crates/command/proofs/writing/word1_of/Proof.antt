@@ -3,7 +3,7 @@ use Rattle.command.proofs.writing.word1_of.Statement.{statement}
 use Rattle.command.proofs.writing.word1_of.Tie as tie
 use Rattle.command.proofs.writing.word1_of.Reads as reads
 use Rattle.command.proofs.writing.word1_of.Lts as lts
-use Rattle.command.proofs.writing.flag_of.Reads as flag-of-reads
+use Rattle.fields.proofs.flag_of.Reads as flag-of-reads
 use Rattle.command.proofs.writing.type_of.Reads as type-of-reads
 use Rattle.fields.proofs.with_bits.Reads as with-bits-reads
 

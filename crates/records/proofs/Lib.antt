@@ -1,0 +1,5 @@
+-- for this crate alone
+mod FlagsByte
+mod LentRoom
+mod Spelling
+mod ZeroBytes

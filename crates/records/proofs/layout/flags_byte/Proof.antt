@@ -1,0 +1,78 @@
+use mathlib.Core.Path.{_≡_, sym, subst}
+use native.Mathlib.Omega.{arith}
+use mir.Syntax.{w8}
+use mir.Val.{Fits}
+use Rattle.fields.specs.Word.{packed}
+use Rattle.records.specs.Records.{flagFields}
+use Rattle.records.proofs.FlagsByte.{flags-lt}
+use borrow.Author.Needs.{needs}
+use Rattle.records.proofs.layout.flags_byte.Statement.{statement}
+use Rattle.records.proofs.layout.flags_byte.Tie as tie
+use Rattle.records.proofs.layout.flags_byte.Reads as reads
+use Rattle.records.proofs.layout.flags_byte.Lts as lts
+use Rattle.fields.proofs.flag_of.Reads as flag-of-reads
+use Rattle.fields.proofs.with_bits.Reads as with-bits-reads
+
+whole : (c : tie.After-with-bits6) → c .with-bits6 .result ≡ packed (flagFields (c .before .before .before .before .before .before .before .before .before .before .before .before .args .flags))
+whole c = cc
+
+flag-of-requires : tie.Need-flag-of-requires
+flag-of-requires c κs = search needs
+
+with-bits-requires : tie.Need-with-bits-requires
+with-bits-requires c κs = search needs
+
+flag-of-requires-2 : tie.Need-flag-of-requires-2
+flag-of-requires-2 c κs = search needs
+
+with-bits-requires-2 : tie.Need-with-bits-requires-2
+with-bits-requires-2 c κs = search needs
+
+flag-of-requires-3 : tie.Need-flag-of-requires-3
+flag-of-requires-3 c κs = search needs
+
+with-bits-requires-3 : tie.Need-with-bits-requires-3
+with-bits-requires-3 c κs = search needs
+
+flag-of-requires-4 : tie.Need-flag-of-requires-4
+flag-of-requires-4 c κs = search needs
+
+with-bits-requires-4 : tie.Need-with-bits-requires-4
+with-bits-requires-4 c κs = search needs
+
+flag-of-requires-5 : tie.Need-flag-of-requires-5
+flag-of-requires-5 c κs = search needs
+
+with-bits-requires-5 : tie.Need-with-bits-requires-5
+with-bits-requires-5 c κs = search needs
+
+flag-of-requires-6 : tie.Need-flag-of-requires-6
+flag-of-requires-6 c κs = search needs
+
+with-bits-requires-6 : tie.Need-with-bits-requires-6
+with-bits-requires-6 c κs = search needs
+
+cast-result : tie.Need-cast-result
+cast-result c = let below = flags-lt (c .before .before .before .before .before .before .before .before .before .before .before .before .args .flags) in subst (Fits w8) (sym (whole c)) (record { fits = omega arith })
+
+returns : tie.Need-returns
+returns c = whole c
+
+pub flags-byte-spec : {M : Type 1} → statement M
+flags-byte-spec =
+    tie.close
+    (tie.spec
+    flag-of-requires
+    with-bits-requires
+    flag-of-requires-2
+    with-bits-requires-2
+    flag-of-requires-3
+    with-bits-requires-3
+    flag-of-requires-4
+    with-bits-requires-4
+    flag-of-requires-5
+    with-bits-requires-5
+    flag-of-requires-6
+    with-bits-requires-6
+    cast-result
+    returns)

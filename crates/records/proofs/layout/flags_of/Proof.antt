@@ -1,0 +1,39 @@
+use borrow.Author.Needs.{needs}
+use Rattle.records.proofs.layout.flags_of.Statement.{statement}
+use Rattle.records.proofs.layout.flags_of.Tie as tie
+use Rattle.records.proofs.layout.flags_of.Reads as reads
+use Rattle.records.proofs.layout.flags_of.Lts as lts
+use Rattle.fields.proofs.is_set.Reads as is-set-reads
+
+is-set-requires : tie.Need-is-set-requires
+is-set-requires c κs = search needs
+
+is-set-requires-2 : tie.Need-is-set-requires-2
+is-set-requires-2 c κs = search needs
+
+is-set-requires-3 : tie.Need-is-set-requires-3
+is-set-requires-3 c κs = search needs
+
+is-set-requires-4 : tie.Need-is-set-requires-4
+is-set-requires-4 c κs = search needs
+
+is-set-requires-5 : tie.Need-is-set-requires-5
+is-set-requires-5 c κs = search needs
+
+is-set-requires-6 : tie.Need-is-set-requires-6
+is-set-requires-6 c κs = search needs
+
+returns : tie.Need-returns
+returns c = cc
+
+pub flags-of-spec : {M : Type 1} → statement M
+flags-of-spec =
+    tie.close
+    (tie.spec
+    is-set-requires
+    is-set-requires-2
+    is-set-requires-3
+    is-set-requires-4
+    is-set-requires-5
+    is-set-requires-6
+    returns)

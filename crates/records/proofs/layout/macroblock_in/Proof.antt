@@ -1,0 +1,69 @@
+use Rattle.records.specs.Records.{macroblockIn}
+use borrow.Author.Needs.{needs}
+use Rattle.records.proofs.layout.macroblock_in.Statement.{statement}
+use Rattle.records.proofs.layout.macroblock_in.Tie as tie
+use Rattle.records.proofs.layout.macroblock_in.Reads as reads
+use Rattle.records.proofs.layout.macroblock_in.Lts as lts
+use Rattle.command.proofs.case_of.Reads as case-of-reads
+use Rattle.records.proofs.layout.flags_of.Reads as flags-of-reads
+use Rattle.records.proofs.layout.motion_in.Reads as motion-in-reads
+use Rattle.records.proofs.parts.number16_at.Reads as number16-at-reads
+use Rattle.records.proofs.parts.number8_at.Reads as number8-at-reads
+
+motion-in-requires : tie.Need-motion-in-requires
+motion-in-requires c κs = search needs
+
+case-of-requires : tie.Need-case-of-requires
+case-of-requires c κs = search needs
+
+number8-at-requires : tie.Need-number8-at-requires
+number8-at-requires c κs = search needs
+
+flags-of-requires : tie.Need-flags-of-requires
+flags-of-requires c κs = search needs
+
+number16-at-requires : tie.Need-number16-at-requires
+number16-at-requires c κs = search needs
+
+number16-at-requires-2 : tie.Need-number16-at-requires-2
+number16-at-requires-2 c κs = search needs
+
+number16-at-requires-3 : tie.Need-number16-at-requires-3
+number16-at-requires-3 c κs = search needs
+
+number8-at-requires-2 : tie.Need-number8-at-requires-2
+number8-at-requires-2 c κs = search needs
+
+number8-at-requires-3 : tie.Need-number8-at-requires-3
+number8-at-requires-3 c κs = search needs
+
+number8-at-requires-4 : tie.Need-number8-at-requires-4
+number8-at-requires-4 c κs = search needs
+
+number8-at-requires-5 : tie.Need-number8-at-requires-5
+number8-at-requires-5 c κs = search needs
+
+number8-at-requires-6 : tie.Need-number8-at-requires-6
+number8-at-requires-6 c κs = search needs
+
+returns : tie.Need-returns
+unfolding macroblockIn
+returns c = cc
+
+pub macroblock-in-spec : {M : Type 1} → statement M
+macroblock-in-spec =
+    tie.close
+    (tie.spec
+    motion-in-requires
+    case-of-requires
+    number8-at-requires
+    flags-of-requires
+    number16-at-requires
+    number16-at-requires-2
+    number16-at-requires-3
+    number8-at-requires-2
+    number8-at-requires-3
+    number8-at-requires-4
+    number8-at-requires-5
+    number8-at-requires-6
+    returns)

@@ -1,0 +1,32 @@
+use mathlib.Core.Path.{_≡_}
+use Prim.Native.Nat.{suc, _+_}
+use native.Mathlib.Omega.{arith}
+use borrow.Author.Needs.{needs}
+use Rattle.records.proofs.parts.number16_at.Statement.{statement}
+use Rattle.records.proofs.parts.number16_at.Tie as tie
+use Rattle.records.proofs.parts.number16_at.Reads as reads
+use Rattle.records.proofs.parts.number16_at.Lts as lts
+use Rattle.fields.proofs.number16.Reads as number16-reads
+use Rattle.records.proofs.parts.byte_at.Reads as byte-at-reads
+
+byte-at-requires : tie.Need-byte-at-requires
+byte-at-requires c κs = search needs
+
+add-byte-at : tie.Need-add-byte-at
+add-byte-at c = search needs
+
+byte-at-requires-2 : tie.Need-byte-at-requires-2
+byte-at-requires-2 c κs = search needs
+
+number16-requires : tie.Need-number16-requires
+number16-requires c κs = search needs
+
+returns : tie.Need-returns
+returns c =
+    let i = c .before .before .before .before .args .i in
+    let e1 : i + 1 ≡ suc i = omega arith in
+    cc
+
+pub number16-at-spec : {M : Type 1} → statement M
+number16-at-spec =
+    tie.close (tie.spec byte-at-requires add-byte-at byte-at-requires-2 number16-requires returns)

@@ -1,0 +1,54 @@
+-- One command read alone, and one record written alone.
+use Prim.Native.Nat.{ℕ}
+use mathlib.Core.Bool.{cond, not}
+use mathlib.Core.List.{List, _++_}
+use lib.Dec.{eqb, ltb}
+use lib.ListN.{length, drop}
+use Rattle.answers.specs.Answers.{judged}
+use Rattle.command.specs.Headers.{macroblockHeader}
+use Rattle.command.specs.Macroblocks.{wordAt, macroblockOf, wordsOf}
+use Rattle.command.specs.Rules.{commandRules}
+use Rattle.answers.specs.declared.Answer.{Answer}
+use Rattle.answers.specs.declared.Answer.the-variants.{Accepted, Refused}
+use Rattle.records.specs.Layout.{recordLength}
+use Rattle.records.specs.Records.{recordOf, macroblockIn}
+use Rattle.records.specs.RecordRules.{recordRules}
+
+-- The next answer where nothing was refused before it.
+abbrev pub next : Answer → Answer → Answer
+next Accepted b = b
+next (Refused n p) b = Refused n p
+
+-- What lent memory holds after an answer: what was to be written, and what stood beyond it; or all that stood there. "No
+-- refusal writes into lent memory."
+abbrev pub lentAfter : Answer → List ℕ → List ℕ → List ℕ
+lentAfter Accepted new room = new ++ drop (length new) room
+lentAfter (Refused n p) new room = room
+
+-- Room for so many bytes or words, or "14 lent room too small: bytes or words needed".
+abbrev pub roomFor : ℕ → List ℕ → Answer
+roomFor needed room = cond (ltb (length room) needed) (Refused 14 needed) Accepted
+
+-- "an empty run gets 1 at 0, any header but MACROBLOCK's gets 2", fewer than nine words 1 at the words given; then the rules of
+-- a command alone; "14 follows all these".
+unfoldable pub readFault : List ℕ → Answer
+readFault words =
+    cond (eqb (length words) 0) (Refused 1 0)
+    (cond (not (eqb (wordAt words 0) macroblockHeader)) (Refused 2 0)
+    (cond (ltb (length words) 9) (Refused 1 (length words)) (judged (commandRules words))))
+
+unfoldable pub readAnswer : List ℕ → List ℕ → Answer
+readAnswer words room = next (readFault words) (roomFor recordLength room)
+
+unfoldable pub readRoom : List ℕ → List ℕ → List ℕ
+readRoom words room = lentAfter (readAnswer words room) (recordOf (macroblockOf words)) room
+
+-- "A length other than 24 gets 15 at byte 0", else the first bad byte; then 14.
+unfoldable pub recordFault : List ℕ → Answer
+recordFault bytes = cond (eqb (length bytes) recordLength) (judged (recordRules bytes)) (Refused 15 0)
+
+unfoldable pub writeAnswer : List ℕ → List ℕ → Answer
+writeAnswer bytes room = next (recordFault bytes) (roomFor 9 room)
+
+unfoldable pub writeRoom : List ℕ → List ℕ → List ℕ
+writeRoom bytes room = lentAfter (writeAnswer bytes room) (wordsOf (macroblockIn bytes)) room

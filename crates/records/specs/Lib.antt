@@ -1,0 +1,4 @@
+pub mod Alone
+pub mod Layout
+pub mod RecordRules
+pub mod Records
