@@ -133,3 +133,18 @@ type-back i t f b h p = by (isSet i) refl p
     by : (x : Bool) → isSet i ≡ x → cond x (eqb t intraType) (leb 1 t && leb t 3) ≡ true → of (cond x 0 t) t
     by true e q = (sym (eqb-true t intraType q), sym (eqb-true i 1 e))
     by false e q = inter (omega (arith, eqb-false i 1 e)) (three (leb-true 1 t (and-left (leb 1 t) (leb t 3) q)) (leb-true t 3 (and-right (leb 1 t) (leb t 3) q)))
+
+-- The numbers of a case are words.
+pub forward-lt : (c : Case) → CaseFits c → motionOf c .forward < 2 ^ 32
+unfolding motionOf
+forward-lt Intra h = omega arith
+forward-lt (Inter (Forward f)) h = word-lt f (h .0)
+forward-lt (Inter (Backward b)) h = omega arith
+forward-lt (Inter (Both f b)) h = word-lt f (h .0 .0)
+
+pub backward-lt : (c : Case) → CaseFits c → motionOf c .backward < 2 ^ 32
+unfolding motionOf
+backward-lt Intra h = omega arith
+backward-lt (Inter (Forward f)) h = omega arith
+backward-lt (Inter (Backward b)) h = word-lt b (h .0)
+backward-lt (Inter (Both f b)) h = word-lt b (h .1 .0)

@@ -28,27 +28,27 @@ use Rattle.command.proofs.CaseLaws.{and-left, and-right, vectors-four, 
 use Rattle.answers.proofs.Judging.{Hold, all-hold, none-broken, hold-both, hold-each}
 
 -- a flag in its bit
-flag-back : (b : Bool) → isSet (flag b % 2) ≡ b
+pub flag-back : (b : Bool) → isSet (flag b % 2) ≡ b
 flag-back true = refl
 flag-back false = refl
 
-abbrev flagsMade : Bool → Bool → Bool → Bool → Bool → Bool → Flags
+abbrev pub flagsMade : Bool → Bool → Bool → Bool → Bool → Bool → Flags
 flagsMade a b c d e f = record { «first_in_slice» = a; «last_in_slice» = b; «first_in_group» = c; «last_in_group» = d; clamp = e; «no_skip_conversion» = f }
 
-same-flags : {a b c d e f a′ b′ c′ d′ e′ f′ : Bool} → a ≡ a′ → b ≡ b′ → c ≡ c′ → d ≡ d′ → e ≡ e′ → f ≡ f′ → flagsMade a b c d e f ≡ flagsMade a′ b′ c′ d′ e′ f′
+pub same-flags : {a b c d e f a′ b′ c′ d′ e′ f′ : Bool} → a ≡ a′ → b ≡ b′ → c ≡ c′ → d ≡ d′ → e ≡ e′ → f ≡ f′ → flagsMade a b c d e f ≡ flagsMade a′ b′ c′ d′ e′ f′
 same-flags ea eb ec ed ee ef = cc
 
-abbrev made : ℕ → ℕ → ℕ → Case → Bool → ℕ → ℕ → ℕ → ℕ → Flags → Macroblock
+abbrev pub made : ℕ → ℕ → ℕ → Case → Bool → ℕ → ℕ → ℕ → ℕ → Flags → Macroblock
 made a b c d e f g h i j =
     record { column = a; row = b; upper = c; case = d; skip = e; pattern = f; «max_size» = g; «target_size» = h; quantiser = i; flags = j }
 
-same-macroblock : {a b c a′ b′ c′ : ℕ} {d d′ : Case} {e e′ : Bool} {f g h i f′ g′ h′ i′ : ℕ} {j j′ : Flags} → a ≡ a′ → b ≡ b′ → c ≡ c′ → d ≡ d′ → e ≡ e′ → f ≡ f′ → g ≡ g′ → h ≡ h′ → i ≡ i′ → j ≡ j′ → made a b c d e f g h i j ≡ made a′ b′ c′ d′ e′ f′ g′ h′ i′ j′
+pub same-macroblock : {a b c a′ b′ c′ : ℕ} {d d′ : Case} {e e′ : Bool} {f g h i f′ g′ h′ i′ : ℕ} {j j′ : Flags} → a ≡ a′ → b ≡ b′ → c ≡ c′ → d ≡ d′ → e ≡ e′ → f ≡ f′ → g ≡ g′ → h ≡ h′ → i ≡ i′ → j ≡ j′ → made a b c d e f g h i j ≡ made a′ b′ c′ d′ e′ f′ g′ h′ i′ j′
 same-macroblock ea eb ec ed ee ef eg eh ei ej = cc
 
 same-four : {a b c d a′ b′ c′ d′ : ℕ} → a ≡ a′ → b ≡ b′ → c ≡ c′ → d ≡ d′ → a ∷ b ∷ c ∷ d ∷ [] ≡ a′ ∷ b′ ∷ c′ ∷ d′ ∷ []
 same-four ea eb ec ed = cc
 
-both-true : {a b : Bool} → a ≡ true → b ≡ true → (a && b) ≡ true
+pub both-true : {a b : Bool} → a ≡ true → b ≡ true → (a && b) ≡ true
 both-true e f = simp (e, f)
 
 -- the rule of word 1's type, over the intra bit and the type
@@ -165,11 +165,11 @@ word-below [] h i = omega arith
 word-below (w ∷ ws) h zero = h .0
 word-below (w ∷ ws) h (suc i) = word-below ws (h .1) i
 
-bits-lt : (w hi lo : ℕ) → bits w hi lo < 2 ^ width hi lo
+pub bits-lt : (w hi lo : ℕ) → bits w hi lo < 2 ^ width hi lo
 bits-lt w hi lo = mod-lt (w / 2 ^ lo) (pow-pos (width hi lo))
 
 -- one bit, as a flag and back
-bit-back : (b : ℕ) → b < 2 → flag (isSet b) % 2 ≡ b
+pub bit-back : (b : ℕ) → b < 2 → flag (isSet b) % 2 ≡ b
 bit-back b h = by (eqb b 1) refl
   where
     by : (x : Bool) → eqb b 1 ≡ x → flag x % 2 ≡ b

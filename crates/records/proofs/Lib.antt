@@ -1,3 +1,5 @@
+-- for the crates above
+pub mod RecordLaws
 -- for this crate alone
 mod FlagsByte
 mod LentRoom

@@ -15,7 +15,7 @@ use Rattle.records.specs.Records.{flagFields, recordOf}
 use Rattle.records.proofs.FlagsByte.{flags-lt}
 
 -- the bytes, from those of the longer parts and the single ones
-abbrev bytesBy : List ℕ → List ℕ → List ℕ → ℕ → ℕ → ℕ → ℕ → ℕ → ℕ → ℕ → List ℕ → List ℕ → List ℕ
+abbrev pub bytesBy : List ℕ → List ℕ → List ℕ → ℕ → ℕ → ℕ → ℕ → ℕ → ℕ → ℕ → List ℕ → List ℕ → List ℕ
 bytesBy col row up kind skip pattern max target quantiser flags fw bw =
     getD col 0 0 ∷ getD col 1 0 ∷ getD row 0 0 ∷ getD row 1 0 ∷ getD up 0 0 ∷ getD up 1 0
     ∷ kind ∷ skip ∷ pattern ∷ max ∷ target ∷ quantiser ∷ flags ∷ 0 ∷ 0 ∷ 0

@@ -1,0 +1,356 @@
+-- A record and its macroblock: each gives the other back, and legal ones give legal ones.
+use mathlib.Core.Path.{_≡_, refl, sym, ap, ap₂, subst, _∙_}
+use mathlib.Core.Bool.{Bool, true, false, cond, _&&_, _||_}
+use mathlib.Core.List.{List, [], _∷_, _++_}
+use Prim.Native.Nat.{ℕ, zero, suc, _+_, _*_, _/_, _%_, _^_, _<_, _≤_}
+use native.Mathlib.Nat.{mod-eq-of-lt, pow-suc}
+use native.Mathlib.Omega.{arith}
+use borrow.Author.Tests.{eqb-true, eqb-false, eq-eqb, leb-true, le-leb}
+use lib.Dec.{T, eqb, leb, eqb→eq}
+use lib.ListN.{length, getD}
+use Rattle.fields.specs.Word.{width, bits, isSet, flag, packed}
+use Rattle.fields.specs.Bytes.{bytesOf, numberOf, elements}
+use Rattle.fields.proofs.Elements.{elements-all}
+use Rattle.fields.proofs.LittleEndian.{Bytes, bytes-back, number-back}
+use Rattle.fields.proofs.Packing.{piece, packed-field, packed-is}
+use Rattle.prediction.specs.Vectors.{vectorOf}
+use Rattle.prediction.proofs.TwosComplement.{vector-word-back}
+use Rattle.answers.specs.Answers.{judged}
+use Rattle.answers.specs.declared.Answer.the-variants.{Accepted}
+use Rattle.answers.proofs.Judging.{Hold, all-hold, none-broken, hold-both, hold-each}
+use Rattle.command.specs.Cases.{motion, motionOf, caseOf}
+use Rattle.command.specs.Legal.{CaseFits, Legal}
+use Rattle.command.specs.Rules.{keptBy}
+use Rattle.command.specs.declared.Case.{Case}
+use Rattle.command.specs.declared.Case.the-variants.{Intra, Inter}
+use Rattle.command.specs.declared.Prediction.the-variants.{Forward, Backward, Both}
+use Rattle.command.specs.declared.Flags.{Flags}
+use Rattle.command.specs.declared.Kept.{Kept}
+use Rattle.command.specs.declared.Macroblock.{Macroblock}
+use Rattle.command.specs.declared.Motion.{Motion}
+use Rattle.command.proofs.CaseLaws.{and-left, and-right, kind-most, case-fits, case-back, forward-lt, backward-lt}
+use Rattle.command.proofs.CommandLaws.{flag-back, bit-back, bits-lt, both-true, same-flags, same-macroblock}
+use Rattle.records.specs.Layout.{Part, columnPart, rowPart, upperPart, kindPart, skipPart, patternPart, maxSizePart, targetSizePart, quantiserPart, flagsPart, fillerPart, forwardPart, backwardPart}
+use Rattle.records.specs.Records.{flagFields, flagsOf, valueAt, motionIn, recordOf, macroblockIn}
+use Rattle.records.specs.RecordRules.{hasForward, hasBackward, zeroBytes, unused, fieldRules, zeroRules, recordRules}
+use Rattle.records.proofs.FlagsByte.{flags-lt}
+use Rattle.records.proofs.Spelling.{bytesBy, flag-fits, spelled}
+
+flags-back : (f : Flags) → flagsOf (packed (flagFields f)) ≡ f
+flags-back f =
+    same-flags
+    (ap isSet (packed-field (flagFields f) 0 0 tt) ∙ flag-back (f .«first_in_slice»))
+    (ap isSet (packed-field (flagFields f) 1 1 tt) ∙ flag-back (f .«last_in_slice»))
+    (ap isSet (packed-field (flagFields f) 2 2 tt) ∙ flag-back (f .«first_in_group»))
+    (ap isSet (packed-field (flagFields f) 3 3 tt) ∙ flag-back (f .«last_in_group»))
+    (ap isSet (packed-field (flagFields f) 4 4 tt) ∙ flag-back (f .clamp))
+    (ap isSet (packed-field (flagFields f) 5 5 tt) ∙ flag-back (f .«no_skip_conversion»))
+
+flag-bit : (b : Bool) → isSet (flag b) ≡ b
+flag-bit true = refl
+flag-bit false = refl
+
+same-motion : {k f b k′ f′ b′ : ℕ} → k ≡ k′ → f ≡ f′ → b ≡ b′ → motion k f b ≡ motion k′ f′ b′
+same-motion ek ef eb = cc
+
+-- From a macroblock to its record and back.
+module _ (m : Macroblock) (l : Legal m) where
+  kind-at : valueAt kindPart (recordOf m) ≡ motionOf (m .case) .kind
+  unfolding recordOf
+  kind-at = let k = kind-most (m .case) in number-back 1 (motionOf (m .case) .kind) (omega arith)
+
+  motion-at : motionIn (recordOf m) ≡ motionOf (m .case)
+  unfolding recordOf
+  motion-at =
+      let k = kind-at in
+      let f = number-back 4 (motionOf (m .case) .forward) (forward-lt (m .case) (l .case-fits)) in
+      let b = number-back 4 (motionOf (m .case) .backward) (backward-lt (m .case) (l .case-fits)) in
+      same-motion k f b
+
+  quantiser-lt : m .quantiser < 32
+  unfolding keptBy
+  quantiser-lt = let most = leb-true (m .quantiser) 31 (and-right (leb 1 (m .quantiser)) (leb (m .quantiser) 31) (l .quantiser-permitted)) in omega arith
+
+  -- A legal macroblock comes back from its record.
+  pub record-back : macroblockIn (recordOf m) ≡ m
+  unfolding recordOf macroblockIn
+  record-back =
+      let f = flags-lt (m .flags) in
+      let p = l .pattern-fits in
+      let q = quantiser-lt in
+      same-macroblock
+      (number-back 2 (m .column) (l .column-fits))
+      (number-back 2 (m .row) (l .row-fits))
+      (number-back 2 (m .upper) (l .upper-fits))
+      (ap caseOf motion-at ∙ case-back (m .case) (l .case-fits))
+      (ap isSet (number-back 1 (flag (m .skip)) (flag-fits (m .skip))) ∙ flag-bit (m .skip))
+      (number-back 1 (m .pattern) (omega arith))
+      (number-back 1 (m .«max_size») (l .max-fits))
+      (number-back 1 (m .«target_size») (l .target-fits))
+      (number-back 1 (m .quantiser) (omega arith))
+      (ap flagsOf (number-back 1 (packed (flagFields (m .flags))) (omega arith)) ∙ flags-back (m .flags))
+
+abbrev head : List ℕ → ℕ
+head [] = 0
+head (x ∷ xs) = x
+
+abbrev tail : List ℕ → List ℕ
+tail [] = []
+tail (x ∷ xs) = xs
+
+-- bytes that are those of 0 are zero, each by itself
+zeros-hold : (bs : List ℕ) (i k : ℕ) → elements bs i k ≡ bytesOf k 0 → Hold (zeroBytes bs i k)
+zeros-hold bs i zero e = tt
+zeros-hold bs i (suc k) e = (eq-eqb (getD bs i 0) 0 (ap head e), zeros-hold bs (suc i) k (ap tail e))
+
+hold-zeros : (bs : List ℕ) (i k : ℕ) → Hold (zeroBytes bs i k) → elements bs i k ≡ bytesOf k 0
+hold-zeros bs i zero h = refl
+hold-zeros bs i (suc k) h = ap₂ (λ (x : ℕ) (xs : List ℕ). x ∷ xs) (eqb-true (getD bs i 0) 0 (h .0)) (hold-zeros bs (suc i) k (h .1))
+
+unused-hold : (used : Bool) (p : Part) (bs : List ℕ) → (used ≡ false → elements bs (p .first) (p .count) ≡ bytesOf (p .count) 0) → Hold (unused used p bs)
+unused-hold true p bs h = tt
+unused-hold false p bs h = zeros-hold bs (p .first) (p .count) (h refl)
+
+hold-unused : (used : Bool) (p : Part) (bs : List ℕ) → Hold (unused used p bs) → used ≡ false → elements bs (p .first) (p .count) ≡ bytesOf (p .count) 0
+hold-unused true p bs h e = absurd (subst T e tt)
+hold-unused false p bs h e = hold-zeros bs (p .first) (p .count) h
+
+-- a vector that a case has not is 0
+no-forward : (c : Case) → hasForward (motionOf c .kind) ≡ false → motionOf c .forward ≡ 0
+unfolding motionOf
+no-forward Intra e = refl
+no-forward (Inter (Forward f)) e = absurd (subst T e tt)
+no-forward (Inter (Backward b)) e = refl
+no-forward (Inter (Both f b)) e = absurd (subst T e tt)
+
+no-backward : (c : Case) → hasBackward (motionOf c .kind) ≡ false → motionOf c .backward ≡ 0
+unfolding motionOf
+no-backward Intra e = refl
+no-backward (Inter (Forward f)) e = refl
+no-backward (Inter (Backward b)) e = absurd (subst T e tt)
+no-backward (Inter (Both f b)) e = absurd (subst T e tt)
+
+at-most : {v n k : ℕ} → v ≡ n → n ≤ k → leb v k ≡ true
+at-most {v} {n} {k} e h = le-leb v k (subst (λ (x : ℕ). x ≤ k) (sym e) h)
+
+lt-most : {n : ℕ} → n < 64 → n ≤ 63
+lt-most h = omega arith
+
+flag-most : (b : Bool) → flag b ≤ 1
+flag-most true = omega arith
+flag-most false = omega arith
+
+module _ (m : Macroblock) (l : Legal m) where
+  zeros-kept : Hold (zeroRules (recordOf m) (valueAt kindPart (recordOf m)))
+  unfolding zeroRules recordOf
+  zeros-kept =
+      let bs = recordOf m in
+      let k = valueAt kindPart bs in
+      let absent : (b : ℕ → Bool) → b k ≡ false → b (motionOf (m .case) .kind) ≡ false = λ b e. ap b (sym (kind-at m l)) ∙ e in
+      hold-both (unused false fillerPart bs) (unused (hasForward k) forwardPart bs ++ unused (hasBackward k) backwardPart bs)
+      (unused-hold false fillerPart bs (λ e. refl))
+      (hold-both (unused (hasForward k) forwardPart bs) (unused (hasBackward k) backwardPart bs)
+      (unused-hold (hasForward k) forwardPart bs (λ e. ap (bytesOf 4) (no-forward (m .case) (absent hasForward e))))
+      (unused-hold (hasBackward k) backwardPart bs (λ e. ap (bytesOf 4) (no-backward (m .case) (absent hasBackward e)))))
+
+  fields-kept : Hold (fieldRules (recordOf m) (keptBy m))
+  unfolding fieldRules recordOf
+  fields-kept =
+      let k = kind-most (m .case) in
+      let p = l .pattern-fits in
+      let f = flags-lt (m .flags) in
+      let s = flag-most (m .skip) in
+      let kind = at-most (number-back 1 (motionOf (m .case) .kind) (omega arith)) k in
+      let skip = at-most (number-back 1 (flag (m .skip)) (flag-fits (m .skip))) s in
+      let pattern = at-most (number-back 1 (m .pattern) (omega arith)) (lt-most p) in
+      let flags = at-most (number-back 1 (packed (flagFields (m .flags))) (omega arith)) (lt-most f) in (
+        kind,
+        (
+          both-true skip (l .intra-not-skipped),
+          (both-true pattern (both-true (l .intra-pattern) (l .skip-pattern)), (l .quantiser-permitted, (both-true flags (l .skip-inside-slice), tt))),
+        ),
+      )
+
+  -- A legal macroblock's record keeps the rules of records.
+  pub record-kept : judged (recordRules (recordOf m)) ≡ Accepted
+  unfolding recordRules fieldRules
+  record-kept =
+      let bs = recordOf m in
+      none-broken (recordRules bs)
+      (hold-both (fieldRules bs (keptBy (macroblockIn bs))) (zeroRules bs (valueAt kindPart bs))
+      (subst (λ (n : Macroblock). Hold (fieldRules bs (keptBy n))) (sym (record-back m l)) fields-kept)
+      zeros-kept)
+
+-- From a record to its macroblock and back.
+byte-lt : (bs : List ℕ) → Bytes bs → (i : ℕ) → getD bs i 0 < 256
+byte-lt [] h i = omega arith
+byte-lt (b ∷ bs) h zero = h .0
+byte-lt (b ∷ bs) h (suc i) = byte-lt bs (h .1) i
+
+part-bytes : (bs : List ℕ) → Bytes bs → (i k : ℕ) → Bytes (elements bs i k)
+part-bytes bs h i zero = tt
+part-bytes bs h i (suc k) = (byte-lt bs h i, part-bytes bs h (suc i) k)
+
+-- the number of bytes is below what they can hold, and one byte's number is that byte
+number-lt : (bs : List ℕ) → Bytes bs → numberOf bs < 256 ^ length bs
+number-lt [] h = omega arith
+number-lt (b ∷ bs) h =
+    let up = number-lt bs (h .1) in
+    let low = h .0 in
+    subst (λ (x : ℕ). b + 256 * numberOf bs < x) (sym (pow-suc 256 (length bs))) (joined b (numberOf bs) (256 ^ length bs) low up)
+  where
+    joined : (b n p : ℕ) → b < 256 → n < p → b + 256 * n < p * 256
+    joined b n p hb hn = omega arith
+
+one : (b : ℕ) → numberOf (b ∷ []) ≡ b
+one b = omega arith
+
+-- numbers that a record may hold are those of a case
+motion-again : (mo : Motion)
+    → mo .kind ≤ 3
+    → mo .forward < 2 ^ 32
+    → mo .backward < 2 ^ 32
+    → (hasForward (mo .kind) ≡ false → mo .forward ≡ 0)
+    → (hasBackward (mo .kind) ≡ false → mo .backward ≡ 0)
+    → motionOf (caseOf mo) ≡ mo
+unfolding caseOf motionOf
+motion-again mo hk hf hb nf nb = by (eqb (mo .kind) 1) (eqb (mo .kind) 2) (eqb (mo .kind) 3) refl refl refl
+  where
+    by : (x y z : Bool)
+        → eqb (mo .kind) 1 ≡ x
+        → eqb (mo .kind) 2 ≡ y
+        → eqb (mo .kind) 3 ≡ z
+        → motionOf (cond x (Inter (Forward (vectorOf (mo .forward)))) (cond y (Inter (Backward (vectorOf (mo .backward)))) (cond z (Inter (Both (vectorOf (mo .forward)) (vectorOf (mo .backward)))) Intra)))
+        ≡ motion (mo .kind) (mo .forward) (mo .backward)
+    by true y z ex ey ez = let k = eqb-true (mo .kind) 1 ex in same-motion (sym k) (vector-word-back (mo .forward) hf) (sym (nb (subst (λ (n : ℕ). hasBackward n ≡ false) (sym k) refl)))
+    by false true z ex ey ez = let k = eqb-true (mo .kind) 2 ey in same-motion (sym k) (sym (nf (subst (λ (n : ℕ). hasForward n ≡ false) (sym k) refl))) (vector-word-back (mo .backward) hb)
+    by false false true ex ey ez = let k = eqb-true (mo .kind) 3 ez in same-motion (sym k) (vector-word-back (mo .forward) hf) (vector-word-back (mo .backward) hb)
+    by false false false ex ey ez =
+        let k : mo .kind ≡ 0 = omega (arith, eqb-false (mo .kind) 1 ex, eqb-false (mo .kind) 2 ey, eqb-false (mo .kind) 3 ez) in
+        same-motion (sym k) (sym (nf (subst (λ (n : ℕ). hasForward n ≡ false) (sym k) refl))) (sym (nb (subst (λ (n : ℕ). hasBackward n ≡ false) (sym k) refl)))
+
+-- a byte of six flags, and back
+flags-again : (b : ℕ) → b < 64 → packed (flagFields (flagsOf b)) ≡ b
+flags-again b h =
+    let bit : (i : ℕ) → T (eqb (width i i) 1) → flag (isSet (bits b i i)) % 2 ≡ bits b i i =
+    λ i t. bit-back (bits b i i) (subst (λ (n : ℕ). bits b i i < 2 ^ n) (eqb→eq (width i i) 1 t) (bits-lt b i i)) in
+    packed-is (flagFields (flagsOf b)) b (piece 0 0 ∷ piece 1 1 ∷ piece 2 2 ∷ piece 3 3 ∷ piece 4 4 ∷ piece 5 5 ∷ piece 31 6 ∷ []) (omega arith) tt
+    (bit 0 tt, (bit 1 tt, (bit 2 tt, (bit 3 tt, (bit 4 tt, (bit 5 tt, (omega arith, tt)))))))
+
+-- ten single bytes of a record, the others as they are
+same-bytes : {b0 b1 b2 b3 b4 b5 b16 b17 b18 b19 b20 b21 b22 b23 k s p x t q f z y w k′ s′ p′ x′ t′ q′ f′ z′ y′ w′ : ℕ}
+    → k ≡ k′
+    → s ≡ s′
+    → p ≡ p′
+    → x ≡ x′
+    → t ≡ t′
+    → q ≡ q′
+    → f ≡ f′
+    → z ≡ z′
+    → y ≡ y′
+    → w ≡ w′
+    → _≡_ {A = List ℕ}
+    (b0 ∷ b1 ∷ b2 ∷ b3 ∷ b4 ∷ b5 ∷ k ∷ s ∷ p ∷ x ∷ t ∷ q ∷ f ∷ z ∷ y ∷ w ∷ b16 ∷ b17 ∷ b18 ∷ b19 ∷ b20 ∷ b21 ∷ b22 ∷ b23 ∷ [])
+    (b0 ∷ b1 ∷ b2 ∷ b3 ∷ b4 ∷ b5 ∷ k′ ∷ s′ ∷ p′ ∷ x′ ∷ t′ ∷ q′ ∷ f′ ∷ z′ ∷ y′ ∷ w′ ∷ b16 ∷ b17 ∷ b18 ∷ b19 ∷ b20 ∷ b21 ∷ b22 ∷ b23 ∷ [])
+same-bytes ek es ep ex et eq ef ez ey ew = cc
+
+flag-again : (b : ℕ) → b ≤ 1 → flag (isSet b) ≡ b
+flag-again b h = by (eqb b 1) refl
+  where
+    by : (x : Bool) → eqb b 1 ≡ x → flag x ≡ b
+    by true e = sym (eqb-true b 1 e)
+    by false e = omega (arith, eqb-false b 1 e)
+
+module _ (bs : List ℕ) (n : length bs ≡ 24) (h : Bytes bs) (k : judged (recordRules bs) ≡ Accepted) where
+  abbrev kept : Kept
+  kept = keptBy (macroblockIn bs)
+
+  rules : Hold (fieldRules bs kept) × Hold (zeroRules bs (valueAt kindPart bs))
+  unfolding recordRules
+  rules = hold-each (fieldRules bs kept) (zeroRules bs (valueAt kindPart bs)) (all-hold (recordRules bs) k)
+
+  kind-right : valueAt kindPart bs ≤ 3
+  unfolding fieldRules
+  kind-right = leb-true (valueAt kindPart bs) 3 (rules .0 .0)
+
+  skip-right : (leb (valueAt skipPart bs) 1 ≡ true) × (kept .«intra_not_skipped» ≡ true)
+  unfolding fieldRules
+  skip-right = let r = rules .0 .1 .0 in (and-left (leb (valueAt skipPart bs) 1) (kept .«intra_not_skipped») r, and-right (leb (valueAt skipPart bs) 1) (kept .«intra_not_skipped») r)
+
+  pattern-right : (leb (valueAt patternPart bs) 63 ≡ true) × (kept .«intra_pattern» ≡ true) × (kept .«skip_pattern» ≡ true)
+  unfolding fieldRules
+  pattern-right =
+      let r = rules .0 .1 .1 .0 in
+      let s = and-right (leb (valueAt patternPart bs) 63) (kept .«intra_pattern» && kept .«skip_pattern») r in (
+        and-left (leb (valueAt patternPart bs) 63) (kept .«intra_pattern» && kept .«skip_pattern») r,
+        and-left (kept .«intra_pattern») (kept .«skip_pattern») s,
+        and-right (kept .«intra_pattern») (kept .«skip_pattern») s,
+      )
+
+  quantiser-right : kept .quantiser ≡ true
+  unfolding fieldRules
+  quantiser-right = rules .0 .1 .1 .1 .0
+
+  flags-right : (leb (valueAt flagsPart bs) 63 ≡ true) × (kept .«skip_inside_slice» ≡ true)
+  unfolding fieldRules
+  flags-right = let r = rules .0 .1 .1 .1 .1 .0 in (and-left (leb (valueAt flagsPart bs) 63) (kept .«skip_inside_slice») r, and-right (leb (valueAt flagsPart bs) 63) (kept .«skip_inside_slice») r)
+
+  part-lt : (p : Part) → valueAt p bs < 256 ^ length (elements bs (p .first) (p .count))
+  part-lt p = number-lt (elements bs (p .first) (p .count)) (part-bytes bs h (p .first) (p .count))
+
+  -- A legal record's macroblock is legal.
+  pub record-legal : Legal (macroblockIn bs)
+  unfolding macroblockIn
+  record-legal =
+      let p = leb-true (valueAt patternPart bs) 63 (pattern-right .0) in
+      record {
+        column-fits = part-lt columnPart;
+        row-fits = part-lt rowPart;
+        upper-fits = part-lt upperPart;
+        case-fits = case-fits (motionIn bs);
+        pattern-fits = omega arith;
+        max-fits = part-lt maxSizePart;
+        target-fits = part-lt targetSizePart;
+        intra-not-skipped = skip-right .1;
+        intra-pattern = pattern-right .1;
+        quantiser-permitted = quantiser-right;
+        skip-inside-slice = flags-right .1;
+        skip-pattern = pattern-right .2;
+      }
+
+  zeros : (elements bs 13 3 ≡ 0 ∷ 0 ∷ 0 ∷ []) × (hasForward (valueAt kindPart bs) ≡ false → elements bs 16 4 ≡ bytesOf 4 0) × (hasBackward (valueAt kindPart bs) ≡ false → elements bs 20 4 ≡ bytesOf 4 0)
+  unfolding zeroRules
+  zeros =
+      let kind = valueAt kindPart bs in
+      let a = hold-each (unused false fillerPart bs) (unused (hasForward kind) forwardPart bs ++ unused (hasBackward kind) backwardPart bs) (rules .1) in
+      let b = hold-each (unused (hasForward kind) forwardPart bs) (unused (hasBackward kind) backwardPart bs) (a .1) in
+      (hold-unused false fillerPart bs (a .0) refl, hold-unused (hasForward kind) forwardPart bs (b .0), hold-unused (hasBackward kind) backwardPart bs (b .1))
+
+  motion-right : motionOf (caseOf (motionIn bs)) ≡ motionIn bs
+  motion-right =
+      motion-again (motionIn bs) kind-right (part-lt forwardPart) (part-lt backwardPart)
+      (λ e. ap numberOf (zeros .1 e))
+      (λ e. ap numberOf (zeros .2 e))
+
+  spelling : bytesBy (elements bs 0 2) (elements bs 2 2) (elements bs 4 2) (valueAt kindPart bs) (valueAt skipPart bs) (valueAt patternPart bs) (valueAt maxSizePart bs) (valueAt targetSizePart bs) (valueAt quantiserPart bs) (valueAt flagsPart bs) (elements bs 16 4) (elements bs 20 4) ≡ recordOf (macroblockIn bs)
+  unfolding macroblockIn
+  spelling =
+      let back : (p : Part) → elements bs (p .first) (p .count) ≡ bytesOf (length (elements bs (p .first) (p .count))) (valueAt p bs) =
+      λ p. sym (bytes-back (elements bs (p .first) (p .count)) (part-bytes bs h (p .first) (p .count))) in
+      spelled (macroblockIn bs) (part-lt patternPart) (part-lt maxSizePart) (part-lt targetSizePart) (part-lt quantiserPart)
+      (back columnPart)
+      (back rowPart)
+      (back upperPart)
+      (sym (ap (λ (x : Motion). x .kind) motion-right))
+      (sym (flag-again (valueAt skipPart bs) (leb-true (valueAt skipPart bs) 1 (skip-right .0))))
+      (let f = leb-true (valueAt flagsPart bs) 63 (flags-right .0) in sym (flags-again (valueAt flagsPart bs) (omega arith)))
+      (back forwardPart ∙ ap (bytesOf 4) (sym (ap (λ (x : Motion). x .forward) motion-right)))
+      (back backwardPart ∙ ap (bytesOf 4) (sym (ap (λ (x : Motion). x .backward) motion-right)))
+
+  -- A legal record comes back from its macroblock, all its bytes.
+  pub bytes-again : recordOf (macroblockIn bs) ≡ bs
+  bytes-again =
+      let z = zeros .0 in
+      sym spelling
+      ∙ same-bytes (one (getD bs 6 0)) (one (getD bs 7 0)) (one (getD bs 8 0)) (one (getD bs 9 0)) (one (getD bs 10 0)) (one (getD bs 11 0)) (one (getD bs 12 0)) (sym (ap head z)) (sym (ap (λ (xs : List ℕ). head (tail xs)) z)) (sym (ap (λ (xs : List ℕ). head (tail (tail xs))) z))
+      ∙ elements-all bs 24 n
