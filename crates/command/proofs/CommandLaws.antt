@@ -160,7 +160,7 @@ module _ (m : Macroblock) where
       }
 
 -- From a command's words to its macroblock and back.
-word-below : (ws : List ℕ) → Words ws → (i : ℕ) → wordAt ws i < 2 ^ 32
+pub word-below : (ws : List ℕ) → Words ws → (i : ℕ) → wordAt ws i < 2 ^ 32
 word-below [] h i = omega arith
 word-below (w ∷ ws) h zero = h .0
 word-below (w ∷ ws) h (suc i) = word-below ws (h .1) i

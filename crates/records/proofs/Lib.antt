@@ -1,5 +1,6 @@
 -- for the crates above
 pub mod RecordLaws
+pub mod RoundTrips
 -- for this crate alone
 mod FlagsByte
 mod LentRoom

@@ -2,10 +2,12 @@
 use Prim.Native.Nat.{ℕ}
 use mathlib.Core.Bool.{cond, not}
 use mathlib.Core.List.{List, _++_}
+use mathlib.Core.Path.{_≡_}
 use lib.Dec.{eqb, ltb}
-use lib.ListN.{length, drop}
+use lib.ListN.{length, drop, replicate}
 use Rattle.answers.specs.Answers.{judged}
 use Rattle.command.specs.Headers.{macroblockHeader}
+use Rattle.command.specs.Legal.{Words}
 use Rattle.command.specs.Macroblocks.{wordAt, macroblockOf, wordsOf}
 use Rattle.command.specs.Rules.{commandRules}
 use Rattle.answers.specs.declared.Answer.{Answer}
@@ -52,3 +54,10 @@ writeAnswer bytes room = next (recordFault bytes) (roomFor 9 room)
 
 unfoldable pub writeRoom : List ℕ → List ℕ → List ℕ
 writeRoom bytes room = lentAfter (writeAnswer bytes room) (wordsOf (macroblockIn bytes)) room
+
+-- "A record is legal if such a command gives it": read alone into 24 bytes, the command is accepted and leaves these bytes.
+pub record LegalRecord (bytes : List ℕ) : Type 0 where
+  pub command : List ℕ
+  pub are-words : Words command
+  pub accepted : readAnswer command (replicate recordLength 0) ≡ Accepted
+  pub gives : readRoom command (replicate recordLength 0) ≡ bytes
