@@ -5,4 +5,5 @@ pub mod RoundTrips
 mod FlagsByte
 mod LentRoom
 mod Spelling
+mod Worked
 mod ZeroBytes

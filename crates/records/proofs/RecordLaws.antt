@@ -32,7 +32,7 @@ use Rattle.command.proofs.CaseLaws.{and-left, and-right, kind-most, case-fits, 
 use Rattle.command.proofs.CommandLaws.{flag-back, bit-back, bits-lt, both-true, same-flags, same-macroblock}
 use Rattle.records.specs.Layout.{Part, columnPart, rowPart, upperPart, kindPart, skipPart, patternPart, maxSizePart, targetSizePart, quantiserPart, flagsPart, fillerPart, forwardPart, backwardPart}
 use Rattle.records.specs.Records.{flagFields, flagsOf, valueAt, motionIn, recordOf, macroblockIn}
-use Rattle.records.specs.RecordRules.{hasForward, hasBackward, zeroBytes, unused, fieldRules, zeroRules, recordRules}
+use Rattle.records.specs.RecordRules.{hasForward, hasBackward, zeroBytes, unused, byteRules, zeroRules, recordRules}
 use Rattle.records.proofs.FlagsByte.{flags-lt}
 use Rattle.records.proofs.Spelling.{bytesBy, flag-fits, spelled}
 
@@ -153,8 +153,8 @@ module _ (m : Macroblock) (l : Legal m) where
       (unused-hold (hasForward k) forwardPart bs (λ e. ap (bytesOf 4) (no-forward (m .case) (absent hasForward e))))
       (unused-hold (hasBackward k) backwardPart bs (λ e. ap (bytesOf 4) (no-backward (m .case) (absent hasBackward e)))))
 
-  fields-kept : Hold (fieldRules (recordOf m) (keptBy m))
-  unfolding fieldRules recordOf
+  fields-kept : Hold (byteRules (recordOf m) (keptBy m))
+  unfolding byteRules recordOf
   fields-kept =
       let k = kind-most (m .case) in
       let p = l .pattern-fits in
@@ -173,12 +173,12 @@ module _ (m : Macroblock) (l : Legal m) where
 
   -- A legal macroblock's record keeps the rules of records.
   pub record-kept : judged (recordRules (recordOf m)) ≡ Accepted
-  unfolding recordRules fieldRules
+  unfolding recordRules byteRules
   record-kept =
       let bs = recordOf m in
       none-broken (recordRules bs)
-      (hold-both (fieldRules bs (keptBy (macroblockIn bs))) (zeroRules bs (valueAt kindPart bs))
-      (subst (λ (n : Macroblock). Hold (fieldRules bs (keptBy n))) (sym (record-back m l)) fields-kept)
+      (hold-both (byteRules bs (keptBy (macroblockIn bs))) (zeroRules bs (valueAt kindPart bs))
+      (subst (λ (n : Macroblock). Hold (byteRules bs (keptBy n))) (sym (record-back m l)) fields-kept)
       zeros-kept)
 
 -- From a record to its macroblock and back.
@@ -265,20 +265,20 @@ module _ (bs : List ℕ) (n : length bs ≡ 24) (h : Bytes bs) (k : judged (reco
   abbrev kept : Kept
   kept = keptBy (macroblockIn bs)
 
-  rules : Hold (fieldRules bs kept) × Hold (zeroRules bs (valueAt kindPart bs))
+  rules : Hold (byteRules bs kept) × Hold (zeroRules bs (valueAt kindPart bs))
   unfolding recordRules
-  rules = hold-each (fieldRules bs kept) (zeroRules bs (valueAt kindPart bs)) (all-hold (recordRules bs) k)
+  rules = hold-each (byteRules bs kept) (zeroRules bs (valueAt kindPart bs)) (all-hold (recordRules bs) k)
 
   kind-right : valueAt kindPart bs ≤ 3
-  unfolding fieldRules
+  unfolding byteRules
   kind-right = leb-true (valueAt kindPart bs) 3 (rules .0 .0)
 
   skip-right : (leb (valueAt skipPart bs) 1 ≡ true) × (kept .«intra_not_skipped» ≡ true)
-  unfolding fieldRules
+  unfolding byteRules
   skip-right = let r = rules .0 .1 .0 in (and-left (leb (valueAt skipPart bs) 1) (kept .«intra_not_skipped») r, and-right (leb (valueAt skipPart bs) 1) (kept .«intra_not_skipped») r)
 
   pattern-right : (leb (valueAt patternPart bs) 63 ≡ true) × (kept .«intra_pattern» ≡ true) × (kept .«skip_pattern» ≡ true)
-  unfolding fieldRules
+  unfolding byteRules
   pattern-right =
       let r = rules .0 .1 .1 .0 in
       let s = and-right (leb (valueAt patternPart bs) 63) (kept .«intra_pattern» && kept .«skip_pattern») r in (
@@ -288,11 +288,11 @@ module _ (bs : List ℕ) (n : length bs ≡ 24) (h : Bytes bs) (k : judged (reco
       )
 
   quantiser-right : kept .quantiser ≡ true
-  unfolding fieldRules
+  unfolding byteRules
   quantiser-right = rules .0 .1 .1 .1 .0
 
   flags-right : (leb (valueAt flagsPart bs) 63 ≡ true) × (kept .«skip_inside_slice» ≡ true)
-  unfolding fieldRules
+  unfolding byteRules
   flags-right = let r = rules .0 .1 .1 .1 .1 .0 in (and-left (leb (valueAt flagsPart bs) 63) (kept .«skip_inside_slice») r, and-right (leb (valueAt flagsPart bs) 63) (kept .«skip_inside_slice») r)
 
   part-lt : (p : Part) → valueAt p bs < 256 ^ length (elements bs (p .first) (p .count))

@@ -35,8 +35,8 @@ unused used p bytes = unusedBytes used bytes (p .first) (p .count)
 
 -- Each number within its bits, and the rules of the macroblock itself: "Clashes are placed at byte 7 (skipped intra), 8
 -- (pattern), 12 (skip with a slice end)."
-unfoldable pub fieldRules : List ℕ → Kept → List Rule
-fieldRules bytes kept =
+unfoldable pub byteRules : List ℕ → Kept → List Rule
+byteRules bytes kept =
     bad kindPart (leb (valueAt kindPart bytes) 3)
     ∷ bad skipPart (leb (valueAt skipPart bytes) 1 && kept .«intra_not_skipped»)
     ∷ bad patternPart (leb (valueAt patternPart bytes) 63 && (kept .«intra_pattern» && kept .«skip_pattern»))
@@ -49,4 +49,4 @@ unfoldable pub zeroRules : List ℕ → ℕ → List Rule
 zeroRules bytes kind = unused false fillerPart bytes ++ (unused (hasForward kind) forwardPart bytes ++ unused (hasBackward kind) backwardPart bytes)
 
 unfoldable pub recordRules : List ℕ → List Rule
-recordRules bytes = fieldRules bytes (keptBy (macroblockIn bytes)) ++ zeroRules bytes (valueAt kindPart bytes)
+recordRules bytes = byteRules bytes (keptBy (macroblockIn bytes)) ++ zeroRules bytes (valueAt kindPart bytes)

@@ -8,7 +8,7 @@ ghost use mathlib.Core.List.{[], _∷_};
 ghost use Prim.Native.Nat.{_+_, _≤_};
 ghost use Rattle.answers.specs.Answers.{judged};
 ghost use Rattle.records.specs.Layout.{kindPart, skipPart, patternPart, quantiserPart, flagsPart};
-ghost use Rattle.records.specs.RecordRules.{bad, zeroBytes, unusedBytes, fieldRules, zeroRules, recordRules};
+ghost use Rattle.records.specs.RecordRules.{bad, zeroBytes, unusedBytes, byteRules, zeroRules, recordRules};
 
 // The first of some bytes that is not zero.
 fn zero_fault(bytes: &[u8], at: usize, left: u8) -> Answer
@@ -57,7 +57,7 @@ fn first_of(kind: bool, skip: bool, pattern: bool, quantiser: bool, flags: bool)
 }
 
 fn field_fault(bytes: &[u8], kept: Kept) -> Answer
-    ensures { λ r. ⌜ r ≡ judged (fieldRules (now (bytes .entry)) kept) ⌝ }
+    ensures { λ r. ⌜ r ≡ judged (byteRules (now (bytes .entry)) kept) ⌝ }
 {
     let kind = parts::number8_at(bytes, 6) <= 3;
     let skip = (parts::number8_at(bytes, 7) <= 1) & kept.intra_not_skipped;

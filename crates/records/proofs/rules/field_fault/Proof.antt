@@ -1,4 +1,4 @@
-use Rattle.records.specs.RecordRules.{fieldRules}
+use Rattle.records.specs.RecordRules.{byteRules}
 use borrow.Author.Needs.{needs}
 use Rattle.records.proofs.rules.field_fault.Statement.{statement}
 use Rattle.records.proofs.rules.field_fault.Tie as tie
@@ -23,7 +23,7 @@ first-of-requires : tie.Need-first-of-requires
 first-of-requires c κs = search needs
 
 returns : tie.Need-returns
-unfolding fieldRules
+unfolding byteRules
 returns c = cc
 
 pub field-fault-spec : {M : Type 1} → statement M

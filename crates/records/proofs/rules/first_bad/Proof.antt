@@ -3,7 +3,7 @@ use Rattle.answers.proofs.Judging.{judged-append}
 use Rattle.command.specs.Rules.{keptBy}
 use Rattle.records.specs.Layout.{kindPart}
 use Rattle.records.specs.Records.{valueAt, macroblockIn}
-use Rattle.records.specs.RecordRules.{fieldRules, zeroRules, recordRules}
+use Rattle.records.specs.RecordRules.{byteRules, zeroRules, recordRules}
 use borrow.Author.Needs.{needs}
 use Rattle.records.proofs.rules.first_bad.Statement.{statement}
 use Rattle.records.proofs.rules.first_bad.Tie as tie
@@ -38,7 +38,7 @@ returns : tie.Need-returns
 unfolding recordRules
 returns c =
     let bytes = now (c .before .before .before .before .before .before .before .args .bytes) in
-    let both = judged-append (fieldRules bytes (keptBy (macroblockIn bytes))) (zeroRules bytes (valueAt kindPart bytes)) in
+    let both = judged-append (byteRules bytes (keptBy (macroblockIn bytes))) (zeroRules bytes (valueAt kindPart bytes)) in
     cc
 
 pub first-bad-spec : {M : Type 1} → statement M
