@@ -1,2 +1,4 @@
 -- for the crates above
 pub mod Judging
+-- for this crate alone
+mod Worked

@@ -1,8 +1,9 @@
 // Log records: the 24 bytes of a macroblock, one command read to its record, and one record written as its command.
-mod alone;
 mod layout;
 mod parts;
+mod reading;
 mod rules;
+mod writing;
 
-pub use alone::read_command;
-pub use alone::write_command;
+pub use reading::read_command;
+pub use writing::write_command;

@@ -8,12 +8,12 @@ use Rattle.records.specs.Alone.{recordFault, writeAnswer, writeRoom}
 use Rattle.records.specs.Records.{macroblockIn}
 use Rattle.records.proofs.LentRoom.{refuses, lacks-room, writes, placed-all, other-length, right-length}
 use borrow.Author.Needs.{needs}
-use Rattle.records.proofs.alone.write_command.Statement.{statement}
-use Rattle.records.proofs.alone.write_command.Tie as tie
-use Rattle.records.proofs.alone.write_command.Reads as reads
-use Rattle.records.proofs.alone.write_command.Lts as lts
+use Rattle.records.proofs.writing.write_command.Statement.{statement}
+use Rattle.records.proofs.writing.write_command.Tie as tie
+use Rattle.records.proofs.writing.write_command.Reads as reads
+use Rattle.records.proofs.writing.write_command.Lts as lts
 use Rattle.command.proofs.words_of.Reads as words-of-reads
-use Rattle.records.proofs.alone.copy_words.Reads as copy-words-reads
+use Rattle.records.proofs.writing.copy_words.Reads as copy-words-reads
 use Rattle.records.proofs.layout.macroblock_in.Reads as macroblock-in-reads
 use Rattle.records.proofs.rules.first_bad.Reads as first-bad-reads
 

@@ -5,10 +5,10 @@ use Rattle.records.specs.Alone.{readFault, readAnswer, readRoom}
 use Rattle.records.specs.Records.{recordOf}
 use Rattle.records.proofs.LentRoom.{refuses, lacks-room, writes, copied-all, no-words, other-header, too-few, whole}
 use borrow.Author.Needs.{needs}
-use Rattle.records.proofs.alone.read_command.Statement.{statement}
-use Rattle.records.proofs.alone.read_command.Tie as tie
-use Rattle.records.proofs.alone.read_command.Reads as reads
-use Rattle.records.proofs.alone.read_command.Lts as lts
+use Rattle.records.proofs.reading.read_command.Statement.{statement}
+use Rattle.records.proofs.reading.read_command.Tie as tie
+use Rattle.records.proofs.reading.read_command.Reads as reads
+use Rattle.records.proofs.reading.read_command.Lts as lts
 use Rattle.bytes.proofs.copy.Reads as copy-reads
 use Rattle.command.proofs.macroblock_of.Reads as macroblock-of-reads
 use Rattle.command.proofs.fault_of.Reads as fault-of-reads

@@ -7,8 +7,8 @@ use native.Mathlib.Omega.{arith}
 use borrow.Author.Needs.{needs}
 use lib.ListN.{length, take, drop, getD, set, length-set}
 use lib.Seq.{take-all}
-use Rattle.records.proofs.alone.copy_words.Statement.{statement}
-use Rattle.records.proofs.alone.copy_words.Tie as tie
+use Rattle.records.proofs.writing.copy_words.Statement.{statement}
+use Rattle.records.proofs.writing.copy_words.Tie as tie
 
 abbrev Inv-loop : tie.InvT-loop
 Inv-loop words room₀ i₀ room i = (i ≤ length words) × ((room ≡ take i words ++ drop i room₀) × (length room ≡ length room₀))

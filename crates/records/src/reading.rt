@@ -1,0 +1,30 @@
+// One command read to its record.
+use crate::layout;
+use answers::Answer;
+ghost use mathlib.Core.Path.{_≡_};
+ghost use Rattle.records.specs.Alone.{readAnswer, readRoom};
+
+// Reads one MACROBLOCK command into the first 24 bytes of room.
+pub fn read_command(words: &[u32], room: &mut [u8]) -> Answer
+    ensures { λ r. ⌜ (r ≡ readAnswer (now (words .entry)) (now (room .entry))) × (now (room .exit) ≡ readRoom (now (words .entry)) (now (room .entry))) ⌝ }
+{
+    if words.len() == 0 {
+        return Answer::Refused(1, 0);
+    }
+    if words[0] != 0x7349_0007 {
+        return Answer::Refused(2, 0);
+    }
+    if words.len() < 9 {
+        return Answer::Refused(1, words.len() as u64);
+    }
+    let fault = command::fault_of(words);
+    if let Answer::Refused(_, _) = fault {
+        return fault;
+    }
+    if room.len() < 24 {
+        return Answer::Refused(14, 24);
+    }
+    let bytes = layout::record_of(command::macroblock_of(words));
+    bytes::copy(&bytes, room);
+    Answer::Accepted
+}
