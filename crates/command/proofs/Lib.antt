@@ -2,4 +2,5 @@
 pub mod CaseLaws
 pub mod CommandLaws
 -- for this crate alone
+mod Congruence
 mod Worked

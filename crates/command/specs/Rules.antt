@@ -10,14 +10,14 @@ use Rattle.command.specs.Macroblocks.{wordAt, isIntra, intraType, motion
 use Rattle.command.specs.declared.Kept.{Kept}
 use Rattle.command.specs.declared.Macroblock.{Macroblock}
 
--- The rules of the macroblock itself, which its log record keeps too.
-unfoldable pub keptBy : Macroblock → Kept
-keptBy m =
+-- The rules of the macroblock itself, which its log record keeps too; intra says how it is coded.
+abbrev pub keptIf : Bool → Macroblock → Kept
+keptIf intra m =
     record {
       -- "Intra: .. skip zero."
-      «intra_not_skipped» = not (m .skip && isIntra (m .case));
+      «intra_not_skipped» = not (m .skip && intra);
       -- "Intra: pattern 63."
-      «intra_pattern» = not (isIntra (m .case)) || eqb (m .pattern) 63;
+      «intra_pattern» = not intra || eqb (m .pattern) 63;
       -- "quantiser 1 to 31"
       quantiser = leb 1 (m .quantiser) && leb (m .quantiser) 31;
       -- "Skip: neither first nor last in slice (bits 30 and 31 of word 4 zero)"
@@ -25,6 +25,9 @@ keptBy m =
       -- "Skip: .. pattern zero"
       «skip_pattern» = not (m .skip) || eqb (m .pattern) 0;
     }
+
+unfoldable pub keptBy : Macroblock → Kept
+keptBy m = keptIf (isIntra (m .case)) m
 
 -- Bits of a word that are zero.
 abbrev pub zeroBits : ℕ → ℕ → ℕ → Bool

@@ -1,5 +1,5 @@
 -- Packed words: what each field reads, and when a word is the packed one.
-use mathlib.Core.Path.{_≡_, refl, sym, ap, subst, subst₂, _∙_}
+use mathlib.Core.Path.{_≡_, refl, sym, ap, ap₂, subst, subst₂, _∙_}
 use mathlib.Core.Bool.{Bool, true, false, cond, _&&_, _||_}
 use mathlib.Core.List.{List, [], _∷_}
 use Prim.Native.Nat.{ℕ, _+_, _/_, _%_, _^_, _≤_, _<_}
@@ -88,3 +88,7 @@ module _ (fs : List Field) (w : ℕ) where
 -- A field holds no more than its bits.
 pub bits-cut : (w hi lo : ℕ) → bits w hi lo % 2 ^ width hi lo ≡ bits w hi lo
 bits-cut w hi lo = mod-eq-of-lt (mod-lt (w / 2 ^ lo) (pow-pos (width hi lo)))
+
+-- Equal words and values pack alike.
+pub same-put : {w w′ v v′ : ℕ} (hi lo : ℕ) → w ≡ w′ → v ≡ v′ → withBits w hi lo v ≡ withBits w′ hi lo v′
+same-put hi lo ew ev = ap₂ (λ (x y : ℕ). withBits x hi lo y) ew ev

@@ -1,3 +1,5 @@
+use Rattle.command.proofs.CommandLaws.{same-macroblock}
+use mathlib.Core.Path.{refl}
 use borrow.Author.Needs.{needs}
 use Rattle.command.proofs.reading.assembled.Statement.{statement}
 use Rattle.command.proofs.reading.assembled.Tie as tie
@@ -56,7 +58,8 @@ cast-t21 : tie.Need-cast-t21
 cast-t21 c = search needs
 
 returns : tie.Need-returns
-returns c = cc
+returns c =
+    same-macroblock (c .before .before .before .before .before .before .before .bits .ensures) (c .before .before .before .before .before .before .bits2 .ensures) (c .before .before .before .before .before .bits3 .ensures) refl (c .before .before .before .before .is-set .ensures) (c .before .before .before .bits4 .ensures) (c .before .before .bits5 .ensures) (c .before .bits6 .ensures) (c .bits7 .ensures) (c .before .before .before .before .before .before .before .before .flags-in .ensures)
 
 pub assembled-spec : {M : Type 1} → statement M
 assembled-spec =

@@ -1,3 +1,4 @@
+use Rattle.command.proofs.CommandLaws.{same-flags}
 use borrow.Author.Needs.{needs}
 use Rattle.command.proofs.reading.flags_in.Statement.{statement}
 use Rattle.command.proofs.reading.flags_in.Tie as tie
@@ -24,7 +25,7 @@ is-set-requires-6 : tie.Need-is-set-requires-6
 is-set-requires-6 c κs = search needs
 
 returns : tie.Need-returns
-returns c = cc
+returns c = same-flags (c .before .before .before .before .before .is-set .ensures) (c .before .before .before .before .is-set2 .ensures) (c .before .before .before .is-set3 .ensures) (c .before .before .is-set4 .ensures) (c .before .is-set5 .ensures) (c .is-set6 .ensures)
 
 pub flags-in-spec : {M : Type 1} → statement M
 flags-in-spec =

@@ -1,3 +1,6 @@
+use Rattle.command.proofs.Congruence.{same-assembled}
+use Rattle.command.specs.Cases.{caseOf}
+use mathlib.Core.Path.{ap, _∙_}
 use Rattle.command.specs.Macroblocks.{macroblockOf}
 use borrow.Author.Needs.{needs}
 use Rattle.command.proofs.reading.macroblock_of.Statement.{statement}
@@ -32,7 +35,8 @@ assembled-requires c κs = search needs
 
 returns : tie.Need-returns
 unfolding macroblockOf
-returns c = cc
+returns c = c .assembled .ensures
+    ∙ same-assembled (c .before .before .before .before .word-at .ensures) (c .before .before .before .word-at2 .ensures) (c .before .before .word-at3 .ensures) (c .before .word-at4 .ensures) (c .before .before .before .before .before .case-of .ensures ∙ ap caseOf (c .before .before .before .before .before .before .motion-in .ensures))
 
 pub macroblock-of-spec : {M : Type 1} → statement M
 macroblock-of-spec =

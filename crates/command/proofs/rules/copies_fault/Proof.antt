@@ -1,3 +1,8 @@
+use Rattle.command.proofs.Congruence.{same-rules, copied-by}
+use Rattle.command.specs.Cases.{vectorWords}
+use Rattle.answers.specs.Answers.{judged}
+use denote.Ref.{now}
+use mathlib.Core.Path.{ap, _∙_}
 use borrow.Author.Needs.{needs}
 use Rattle.command.proofs.rules.copies_fault.Statement.{statement}
 use Rattle.command.proofs.rules.copies_fault.Tie as tie
@@ -42,7 +47,16 @@ vector-fault-requires : tie.Need-vector-fault-requires
 vector-fault-requires c κs = search needs
 
 returns : tie.Need-returns
-returns c = cc
+returns c =
+    let ws = now (c .before .before .before .before .before .before .before .before .args .words) in
+    let vs = c .before .before .before .before .before .vector-words .ensures ∙ ap vectorWords (c .before .before .before .before .before .before .motion-in .ensures) in
+    c .vector-fault .ensures
+    ∙ ap judged
+    (same-rules
+    (copied-by ws 5 0 (c .before .before .before .before .word-at .ensures) vs)
+    (copied-by ws 6 1 (c .before .before .before .word-at2 .ensures) vs)
+    (copied-by ws 7 2 (c .before .before .word-at3 .ensures) vs)
+    (copied-by ws 8 3 (c .before .word-at4 .ensures) vs))
 
 pub copies-fault-spec : {M : Type 1} → statement M
 copies-fault-spec =

@@ -1,8 +1,9 @@
+use Rattle.command.proofs.Congruence.{same-both, seven, same-seven}
 use mathlib.Core.Path.{_≡_, sym, ap, _∙_}
 use mathlib.Core.Bool.{Bool, _&&_}
-use mathlib.Core.List.{List, [], _∷_}
+use mathlib.Core.List.{List}
 use borrow.Author.Tests.{not-true, not-false}
-use Rattle.answers.specs.Answers.{Rule, rule, judged}
+use Rattle.answers.specs.Answers.{Rule, judged}
 use Rattle.answers.proofs.Judging.{firstBroken, in-order}
 use Rattle.command.specs.Rules.{fieldRules}
 use borrow.Author.Needs.{needs}
@@ -36,12 +37,16 @@ abbrev quantiser : tie.After-type-permitted → Bool
 quantiser c = c .before .before .before .before .before .before .before .before .args .kept .quantiser
 
 abbrev table : tie.After-type-permitted → List Rule
-table c =
-    rule 4 1 (fixed1 c) ∷ rule 5 1 (permitted c) ∷ rule 11 1 (skip c) ∷ rule 4 3 (fixed3 c) ∷ rule 5 3 (pattern c) ∷ rule 4 4 (fixed4 c) ∷ rule 5 4 (quantiser c) ∷ []
+table c = seven (c .before .before .before .before .before .before .before .before .args .kept) (fixed1 c) (permitted c) (fixed3 c) (fixed4 c)
 
 tests : (c : tie.After-type-permitted) → judged (fieldRules (c .before .before .before .before .before .before .before .before .args .one) (c .before .before .before .before .before .before .before .before .args .three) (c .before .before .before .before .before .before .before .before .args .four) (c .before .before .before .before .before .before .before .before .args .kept)) ≡ firstBroken (table c)
 unfolding fieldRules
-tests c = let same : fieldRules (c .before .before .before .before .before .before .before .before .args .one) (c .before .before .before .before .before .before .before .before .args .three) (c .before .before .before .before .before .before .before .before .args .four) (c .before .before .before .before .before .before .before .before .args .kept) ≡ table c = cc in ap judged same ∙ in-order (table c) tt
+tests c =
+    let fixed1 = same-both (c .before .before .before .before .before .before .before .zero-bits .ensures) (same-both (c .before .before .before .before .before .before .zero-bits2 .ensures) (c .before .before .before .before .before .zero-bits3 .ensures)) in
+    let fixed3 = same-both (c .before .before .before .before .zero-bits4 .ensures) (c .before .before .before .zero-bits5 .ensures) in
+    let fixed4 = same-both (c .before .before .zero-bits6 .ensures) (c .before .zero-bits7 .ensures) in
+    let typed = ap (λ (x : Bool). x && c .before .before .before .before .before .before .before .before .args .kept .«intra_not_skipped») (c .type-permitted .ensures) in
+    ap judged (sym (same-seven (c .before .before .before .before .before .before .before .before .args .kept) fixed1 typed fixed3 fixed4)) ∙ in-order (table c) tt
 
 zero-bits-requires : tie.Need-zero-bits-requires
 zero-bits-requires c κs = search needs

@@ -1,4 +1,6 @@
-use Rattle.command.specs.Rules.{keptBy}
+use mathlib.Core.Path.{ap}
+use mathlib.Core.Bool.{Bool}
+use Rattle.command.specs.Rules.{keptIf, keptBy}
 use borrow.Author.Needs.{needs}
 use Rattle.command.proofs.rules.kept_by.Statement.{statement}
 use Rattle.command.proofs.rules.kept_by.Tie as tie
@@ -11,7 +13,7 @@ is-intra-requires c κs = search needs
 
 returns : tie.Need-returns
 unfolding keptBy
-returns c = cc
+returns c = ap (λ (intra : Bool). keptIf intra (c .before .before .args .macroblock)) (c .before .is-intra .ensures)
 
 pub kept-by-spec : {M : Type 1} → statement M
 kept-by-spec = tie.close (tie.spec is-intra-requires returns)

@@ -1,3 +1,6 @@
+use Rattle.fields.proofs.Packing.{same-put}
+use mathlib.Core.Path.{refl, ap, _∙_}
+use Rattle.fields.specs.Word.{withBits}
 use borrow.Author.Needs.{needs}
 use Rattle.command.proofs.writing.word1_of.Statement.{statement}
 use Rattle.command.proofs.writing.word1_of.Tie as tie
@@ -29,7 +32,7 @@ with-bits-requires-4 : tie.Need-with-bits-requires-4
 with-bits-requires-4 c κs = search needs
 
 returns : tie.Need-returns
-returns c = cc
+returns c = c .with-bits4 .ensures ∙ same-put 31 16 (c .before .with-bits3 .ensures ∙ same-put 13 13 (c .before .before .before .with-bits2 .ensures ∙ same-put 12 8 (c .before .before .before .before .before .with-bits .ensures ∙ ap (withBits 0 2 2) (c .before .before .before .before .before .before .flag-of .ensures)) (c .before .before .before .before .type-of .ensures)) (c .before .before .flag-of2 .ensures)) refl
 
 pub word1-of-spec : {M : Type 1} → statement M
 word1-of-spec =

@@ -1,3 +1,5 @@
+use Rattle.fields.proofs.Packing.{same-put}
+use mathlib.Core.Path.{refl, _∙_}
 use borrow.Author.Needs.{needs}
 use Rattle.command.proofs.writing.word2_of.Statement.{statement}
 use Rattle.command.proofs.writing.word2_of.Tie as tie
@@ -18,7 +20,7 @@ with-bits-requires-2 : tie.Need-with-bits-requires-2
 with-bits-requires-2 c κs = search needs
 
 returns : tie.Need-returns
-returns c = cc
+returns c = c .with-bits2 .ensures ∙ same-put 31 16 (c .before .with-bits .ensures) refl
 
 pub word2-of-spec : {M : Type 1} → statement M
 word2-of-spec =

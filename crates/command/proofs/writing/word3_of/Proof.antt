@@ -1,3 +1,5 @@
+use Rattle.fields.proofs.Packing.{same-put}
+use mathlib.Core.Path.{refl, _∙_}
 use borrow.Author.Needs.{needs}
 use Rattle.command.proofs.writing.word3_of.Statement.{statement}
 use Rattle.command.proofs.writing.word3_of.Tie as tie
@@ -24,7 +26,7 @@ with-bits-requires-3 : tie.Need-with-bits-requires-3
 with-bits-requires-3 c κs = search needs
 
 returns : tie.Need-returns
-returns c = cc
+returns c = c .with-bits3 .ensures ∙ same-put 31 24 (c .before .with-bits2 .ensures ∙ same-put 23 16 (c .before .before .with-bits .ensures) refl) refl
 
 pub word3-of-spec : {M : Type 1} → statement M
 word3-of-spec =

@@ -1,3 +1,5 @@
+use Rattle.fields.proofs.Packing.{same-put}
+use mathlib.Core.Path.{refl, _∙_}
 use borrow.Author.Needs.{needs}
 use Rattle.command.proofs.writing.word4_of.Statement.{statement}
 use Rattle.command.proofs.writing.word4_of.Tie as tie
@@ -49,7 +51,7 @@ with-bits-requires-7 : tie.Need-with-bits-requires-7
 with-bits-requires-7 c κs = search needs
 
 returns : tie.Need-returns
-returns c = cc
+returns c = c .with-bits7 .ensures ∙ same-put 31 31 (c .before .before .with-bits6 .ensures ∙ same-put 30 30 (c .before .before .before .before .with-bits5 .ensures ∙ same-put 27 27 (c .before .before .before .before .before .before .with-bits4 .ensures ∙ same-put 26 26 (c .before .before .before .before .before .before .before .before .with-bits3 .ensures ∙ same-put 25 25 (c .before .before .before .before .before .before .before .before .before .before .with-bits2 .ensures ∙ same-put 24 24 (c .before .before .before .before .before .before .before .before .before .before .before .before .with-bits .ensures) (c .before .before .before .before .before .before .before .before .before .before .before .flag-of .ensures)) (c .before .before .before .before .before .before .before .before .before .flag-of2 .ensures)) (c .before .before .before .before .before .before .before .flag-of3 .ensures)) (c .before .before .before .before .before .flag-of4 .ensures)) (c .before .before .before .flag-of5 .ensures)) (c .before .flag-of6 .ensures)
 
 pub word4-of-spec : {M : Type 1} → statement M
 word4-of-spec =

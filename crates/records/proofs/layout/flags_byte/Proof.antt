@@ -1,8 +1,9 @@
-use mathlib.Core.Path.{_≡_, sym, subst}
+use mathlib.Core.Path.{_≡_, sym, ap, subst, _∙_}
 use native.Mathlib.Omega.{arith}
 use mir.Syntax.{w8}
 use mir.Val.{Fits}
-use Rattle.fields.specs.Word.{packed}
+use Rattle.fields.specs.Word.{withBits, packed}
+use Rattle.fields.proofs.Packing.{same-put}
 use Rattle.records.specs.Records.{flagFields}
 use Rattle.records.proofs.FlagsByte.{flags-lt}
 use borrow.Author.Needs.{needs}
@@ -14,7 +15,7 @@ use Rattle.fields.proofs.flag_of.Reads as flag-of-reads
 use Rattle.fields.proofs.with_bits.Reads as with-bits-reads
 
 whole : (c : tie.After-with-bits6) → c .with-bits6 .result ≡ packed (flagFields (c .before .before .before .before .before .before .before .before .before .before .before .before .args .flags))
-whole c = cc
+whole c = c .with-bits6 .ensures ∙ same-put 0 0 (c .before .before .with-bits5 .ensures ∙ same-put 1 1 (c .before .before .before .before .with-bits4 .ensures ∙ same-put 2 2 (c .before .before .before .before .before .before .with-bits3 .ensures ∙ same-put 3 3 (c .before .before .before .before .before .before .before .before .with-bits2 .ensures ∙ same-put 4 4 (c .before .before .before .before .before .before .before .before .before .before .with-bits .ensures ∙ ap (withBits 0 5 5) (c .before .before .before .before .before .before .before .before .before .before .before .flag-of .ensures)) (c .before .before .before .before .before .before .before .before .before .flag-of2 .ensures)) (c .before .before .before .before .before .before .before .flag-of3 .ensures)) (c .before .before .before .before .before .flag-of4 .ensures)) (c .before .before .before .flag-of5 .ensures)) (c .before .flag-of6 .ensures)
 
 flag-of-requires : tie.Need-flag-of-requires
 flag-of-requires c κs = search needs

@@ -1,4 +1,8 @@
-use Rattle.records.specs.Records.{macroblockIn}
+use Rattle.command.proofs.CommandLaws.{same-macroblock}
+use Rattle.command.specs.Cases.{caseOf}
+use Rattle.fields.specs.Word.{isSet}
+use mathlib.Core.Path.{ap, _∙_}
+use Rattle.records.specs.Records.{flagsOf, macroblockIn}
 use borrow.Author.Needs.{needs}
 use Rattle.records.proofs.layout.macroblock_in.Statement.{statement}
 use Rattle.records.proofs.layout.macroblock_in.Tie as tie
@@ -48,7 +52,18 @@ number8-at-requires-6 c κs = search needs
 
 returns : tie.Need-returns
 unfolding macroblockIn
-returns c = cc
+returns c =
+    same-macroblock
+    (c .before .before .before .before .before .before .before .number16-at .ensures)
+    (c .before .before .before .before .before .before .number16-at2 .ensures)
+    (c .before .before .before .before .before .number16-at3 .ensures)
+    (c .before .before .before .before .before .before .before .before .before .before .case-of .ensures ∙ ap caseOf (c .before .before .before .before .before .before .before .before .before .before .before .motion-in .ensures))
+    (ap isSet (c .before .before .before .before .number8-at2 .ensures))
+    (c .before .before .before .number8-at3 .ensures)
+    (c .before .before .number8-at4 .ensures)
+    (c .before .number8-at5 .ensures)
+    (c .number8-at6 .ensures)
+    (c .before .before .before .before .before .before .before .before .flags-of .ensures ∙ ap flagsOf (c .before .before .before .before .before .before .before .before .before .number8-at .ensures))
 
 pub macroblock-in-spec : {M : Type 1} → statement M
 macroblock-in-spec =

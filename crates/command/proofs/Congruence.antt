@@ -1,0 +1,42 @@
+-- Equal parts make equal wholes, for the proofs of the functions: over plain variables, so that each is checked once.
+use mathlib.Core.Path.{_≡_, ap, ap₂, _∙_}
+use mathlib.Core.Bool.{Bool, _&&_}
+use mathlib.Core.List.{List, [], _∷_}
+use Prim.Native.Nat.{ℕ}
+use lib.Dec.{eqb}
+use lib.ListN.{getD}
+use Rattle.command.specs.Cases.{vectorWords}
+use Rattle.command.specs.Macroblocks.{wordAt, motionIn, assembled}
+use Rattle.command.specs.Rules.{vectorRules, copied}
+use Rattle.answers.specs.Answers.{Rule, rule}
+use Rattle.command.specs.declared.Case.{Case}
+use Rattle.command.specs.declared.Kept.{Kept}
+
+pub same-assembled : {a b c d a′ b′ c′ d′ : ℕ} {e e′ : Case} → a ≡ a′ → b ≡ b′ → c ≡ c′ → d ≡ d′ → e ≡ e′ → assembled a b c d e ≡ assembled a′ b′ c′ d′ e′
+same-assembled {a} {b} {c} {d} {a′} {b′} {c′} {d′} {e} {e′} ea eb ec ed ee =
+    ap₂ (λ (x y : ℕ). assembled x y c d e) ea eb ∙ ap₂ (λ (x y : ℕ). assembled a′ b′ x y e) ec ed ∙ ap (assembled a′ b′ c′ d′) ee
+
+pub same-rules : {a b c d a′ b′ c′ d′ : Bool} → a ≡ a′ → b ≡ b′ → c ≡ c′ → d ≡ d′ → vectorRules a b c d ≡ vectorRules a′ b′ c′ d′
+same-rules {a} {b} {c} {d} {a′} {b′} {c′} {d′} ea eb ec ed = ap₂ (λ (x y : Bool). vectorRules x y c d) ea eb ∙ ap₂ (vectorRules a′ b′) ec ed
+
+-- a word against its copy, from what the code read
+pub copied-by : (ws : List ℕ) (i j : ℕ) {w : ℕ} {vs : List ℕ} → w ≡ wordAt ws i → vs ≡ vectorWords (motionIn ws) → eqb w (getD vs j 0) ≡ copied ws i j
+copied-by ws i j ew ev = ap₂ (λ (x : ℕ) (xs : List ℕ). eqb x (getD xs j 0)) ew ev
+
+pub same-both : {a b a′ b′ : Bool} → a ≡ a′ → b ≡ b′ → (a && b) ≡ (a′ && b′)
+same-both ea eb = ap₂ _&&_ ea eb
+
+-- the field rules, from the four tests that read words
+abbrev pub seven : Kept → Bool → Bool → Bool → Bool → List Rule
+seven k fixed1 typed fixed3 fixed4 =
+    rule 4 1 fixed1
+    ∷ rule 5 1 typed
+    ∷ rule 11 1 (k .«skip_inside_slice» && k .«skip_pattern»)
+    ∷ rule 4 3 fixed3
+    ∷ rule 5 3 (k .«intra_pattern»)
+    ∷ rule 4 4 fixed4
+    ∷ rule 5 4 (k .quantiser)
+    ∷ []
+
+pub same-seven : (k : Kept) {a b c d a′ b′ c′ d′ : Bool} → a ≡ a′ → b ≡ b′ → c ≡ c′ → d ≡ d′ → seven k a b c d ≡ seven k a′ b′ c′ d′
+same-seven k {a} {b} {c} {d} {a′} {b′} {c′} {d′} ea eb ec ed = ap₂ (λ (x y : Bool). seven k x y c d) ea eb ∙ ap₂ (seven k a′ b′) ec ed
