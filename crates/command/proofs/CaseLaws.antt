@@ -1,5 +1,5 @@
 -- Kinds and cases: four words for every case, and a case as numbers and back.
-use mathlib.Core.Path.{_≡_, refl, sym, ap, ap₂, subst, subst₂, _∙_}
+use mathlib.Core.Path.{_≡_, refl, sym, ap, ap₂, subst}
 use mathlib.Core.Bool.{Bool, true, false, cond, _&&_}
 use mathlib.Core.List.{List, [], _∷_}
 use mathlib.Core.Logic.{_⊎_, inl, inr}
@@ -10,7 +10,7 @@ use lib.Dec.{T, eqb, leb}
 use lib.ListN.{length}
 use Rattle.fields.specs.Bytes.{elements}
 use Rattle.fields.proofs.Elements.{elements-all}
-use Rattle.prediction.specs.Vectors.{vectorOf, wordOf}
+use Rattle.prediction.specs.Vectors.{vectorOf}
 use Rattle.prediction.specs.declared.Vector.{Vector}
 use Rattle.prediction.proofs.TwosComplement.{vector-back, vector-word-back, vector-fits, word-lt}
 use Rattle.command.specs.Cases.{byKind, motion, motionOf, caseOf, vectorWords}

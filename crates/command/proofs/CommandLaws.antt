@@ -1,23 +1,21 @@
 -- A command and its macroblock: each gives the other back, and legal ones give legal ones.
 use mathlib.Core.Path.{_≡_, refl, sym, ap, ap₂, subst, _∙_}
 use mathlib.Core.Bool.{Bool, true, false, cond, _&&_}
-use mathlib.Core.List.{List, [], _∷_, _++_}
-use mathlib.Core.Logic.{_⊎_, inl, inr}
-use Prim.Native.Nat.{ℕ, zero, suc, _/_, _%_, _^_, _<_, _≤_}
+use mathlib.Core.List.{List, [], _∷_}
+use Prim.Native.Nat.{ℕ, zero, suc, _/_, _%_, _^_, _<_}
 use native.Mathlib.Nat.{mod-lt, mod-eq-of-lt}
 use native.Mathlib.Omega.{arith}
 use borrow.Author.Tests.{eqb-true, eqb-false, leb-true, eq-eqb}
 use lib.Dec.{T, eqb, leb, eqb→eq}
-use lib.ListN.{length}
 use lib.Pow.{pow-pos}
 use Rattle.fields.specs.Word.{Field, width, bits, packed, isSet, flag}
 use Rattle.fields.specs.Bytes.{elements}
 use Rattle.fields.proofs.Elements.{elements-all}
 use Rattle.fields.proofs.Packing.{valueIn, clear, piece, packed-field, packed-lt, packed-is, bits-cut}
-use Rattle.answers.specs.Answers.{Rule, judged}
+use Rattle.answers.specs.Answers.{Rule}
 use Rattle.command.specs.Cases.{motion, motionOf, caseOf, vectorWords}
-use Rattle.command.specs.Legal.{Words, Command, CaseFits, Legal}
-use Rattle.command.specs.Macroblocks.{wordAt, isIntra, intraType, kindIn, typeOf, motionIn, flagsIn, assembled, macroblockOf, fields1, fields2, fields3, fields4, wordsOf}
+use Rattle.command.specs.Legal.{Words, Command, Legal}
+use Rattle.command.specs.Macroblocks.{wordAt, intraType, kindIn, typeOf, motionIn, flagsIn, macroblockOf, fields1, fields2, fields3, fields4, wordsOf}
 use Rattle.command.specs.Rules.{keptBy, zeroBits, typePermitted, fieldRules, vectorRules, copied, commandRules}
 use Rattle.command.specs.declared.Case.{Case}
 use Rattle.command.specs.declared.Case.the-variants.{Intra, Inter}

@@ -12,3 +12,9 @@ flags-lt f = below (packed (flagFields f)) (packed-lt (flagFields f)) (packed-fi
   where
     below : (n : ℕ) → n < 4294967296 → n / 64 % 67108864 ≡ 0 → n < 64
     below n h e = omega arith
+
+pub flags-fit : (f : Flags) → packed (flagFields f) < 256
+flags-fit f = byte (packed (flagFields f)) (flags-lt f)
+  where
+    byte : (n : ℕ) → n < 64 → n < 256
+    byte n h = omega arith

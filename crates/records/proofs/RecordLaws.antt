@@ -1,9 +1,9 @@
 -- A record and its macroblock: each gives the other back, and legal ones give legal ones.
 use mathlib.Core.Path.{_≡_, refl, sym, ap, ap₂, subst, _∙_}
-use mathlib.Core.Bool.{Bool, true, false, cond, _&&_, _||_}
+use mathlib.Core.Bool.{Bool, true, false, cond, _&&_}
 use mathlib.Core.List.{List, [], _∷_, _++_}
-use Prim.Native.Nat.{ℕ, zero, suc, _+_, _*_, _/_, _%_, _^_, _<_, _≤_}
-use native.Mathlib.Nat.{mod-eq-of-lt, pow-suc}
+use Prim.Native.Nat.{ℕ, zero, suc, _+_, _*_, _%_, _^_, _<_, _≤_}
+use native.Mathlib.Nat.{pow-suc}
 use native.Mathlib.Omega.{arith}
 use borrow.Author.Tests.{eqb-true, eqb-false, eq-eqb, leb-true, le-leb}
 use lib.Dec.{T, eqb, leb, eqb→eq}
@@ -19,7 +19,7 @@ use Rattle.answers.specs.Answers.{judged}
 use Rattle.answers.specs.declared.Answer.the-variants.{Accepted}
 use Rattle.answers.proofs.Judging.{Hold, all-hold, none-broken, hold-both, hold-each}
 use Rattle.command.specs.Cases.{motion, motionOf, caseOf}
-use Rattle.command.specs.Legal.{CaseFits, Legal}
+use Rattle.command.specs.Legal.{Legal}
 use Rattle.command.specs.Rules.{keptBy}
 use Rattle.command.specs.declared.Case.{Case}
 use Rattle.command.specs.declared.Case.the-variants.{Intra, Inter}
@@ -33,7 +33,7 @@ use Rattle.command.proofs.CommandLaws.{flag-back, bit-back, bits-lt, both-true,
 use Rattle.records.specs.Layout.{Part, columnPart, rowPart, upperPart, kindPart, skipPart, patternPart, maxSizePart, targetSizePart, quantiserPart, flagsPart, fillerPart, forwardPart, backwardPart}
 use Rattle.records.specs.Records.{flagFields, flagsOf, valueAt, motionIn, recordOf, macroblockIn}
 use Rattle.records.specs.RecordRules.{hasForward, hasBackward, zeroBytes, unused, byteRules, zeroRules, recordRules}
-use Rattle.records.proofs.FlagsByte.{flags-lt}
+use Rattle.records.proofs.FlagsByte.{flags-lt, flags-fit}
 use Rattle.records.proofs.Spelling.{bytesBy, flag-fits, spelled}
 
 flags-back : (f : Flags) → flagsOf (packed (flagFields f)) ≡ f
@@ -75,7 +75,6 @@ module _ (m : Macroblock) (l : Legal m) where
   pub record-back : macroblockIn (recordOf m) ≡ m
   unfolding recordOf macroblockIn
   record-back =
-      let f = flags-lt (m .flags) in
       let p = l .pattern-fits in
       let q = quantiser-lt in
       same-macroblock
@@ -88,7 +87,7 @@ module _ (m : Macroblock) (l : Legal m) where
       (number-back 1 (m .«max_size») (l .max-fits))
       (number-back 1 (m .«target_size») (l .target-fits))
       (number-back 1 (m .quantiser) (omega arith))
-      (ap flagsOf (number-back 1 (packed (flagFields (m .flags))) (omega arith)) ∙ flags-back (m .flags))
+      (ap flagsOf (number-back 1 (packed (flagFields (m .flags))) (flags-fit (m .flags))) ∙ flags-back (m .flags))
 
 abbrev head : List ℕ → ℕ
 head [] = 0
@@ -163,7 +162,7 @@ module _ (m : Macroblock) (l : Legal m) where
       let kind = at-most (number-back 1 (motionOf (m .case) .kind) (omega arith)) k in
       let skip = at-most (number-back 1 (flag (m .skip)) (flag-fits (m .skip))) s in
       let pattern = at-most (number-back 1 (m .pattern) (omega arith)) (lt-most p) in
-      let flags = at-most (number-back 1 (packed (flagFields (m .flags))) (omega arith)) (lt-most f) in (
+      let flags = at-most (number-back 1 (packed (flagFields (m .flags))) (flags-fit (m .flags))) (lt-most f) in (
         kind,
         (
           both-true skip (l .intra-not-skipped),

@@ -12,7 +12,7 @@ use Rattle.command.specs.Cases.{motionOf}
 use Rattle.command.specs.declared.Macroblock.{Macroblock}
 use Rattle.command.proofs.CaseLaws.{kind-most}
 use Rattle.records.specs.Records.{flagFields, recordOf}
-use Rattle.records.proofs.FlagsByte.{flags-lt}
+use Rattle.records.proofs.FlagsByte.{flags-fit}
 
 -- the bytes, from those of the longer parts and the single ones
 abbrev pub bytesBy : List ℕ → List ℕ → List ℕ → ℕ → ℕ → ℕ → ℕ → ℕ → ℕ → ℕ → List ℕ → List ℕ → List ℕ
@@ -54,5 +54,4 @@ pub spelled : (m : Macroblock) {col row up fw bw : List ℕ} {kind skip flags : 
 unfolding recordOf
 spelled m hp hx ht hq ec er eu ek es eg ef eb =
     let k = kind-most (m .case) in
-    let f = flags-lt (m .flags) in
-    same ec er eu (ek ∙ byte (omega arith)) (es ∙ flag-byte (m .skip)) (byte hp) (byte hx) (byte ht) (byte hq) (eg ∙ byte (omega arith)) ef eb
+    same ec er eu (ek ∙ byte (omega arith)) (es ∙ flag-byte (m .skip)) (byte hp) (byte hx) (byte ht) (byte hq) (eg ∙ byte (flags-fit (m .flags))) ef eb

@@ -5,7 +5,7 @@ use Prim.Native.Nat.{ℕ}
 use lib.ListN.{replicate}
 use Rattle.fields.specs.Word.{packed}
 use Rattle.prediction.specs.Vectors.{vectorOf, wordOf}
-use Rattle.answers.specs.Answers.{numberOf, placeOf}
+use Rattle.answers.specs.Answers.{placeOf}
 use Rattle.command.specs.Cases.{motionOf, caseOf, vectorWords}
 use Rattle.command.specs.Macroblocks.{flagsIn, macroblockOf, wordsOf}
 use Rattle.command.specs.Rules.{keptBy, fieldRules, vectorRules, commandRules}

@@ -5,8 +5,6 @@ use Rattle.answers.proofs.Judging.{before-place, after-place, same-plac
 use borrow.Author.Needs.{needs}
 use Rattle.answers.proofs.earlier.Statement.{statement}
 use Rattle.answers.proofs.earlier.Tie as tie
-use Rattle.answers.proofs.earlier.Reads as reads
-use Rattle.answers.proofs.earlier.Lts as lts
 
 enum-known-a : tie.Need-enum-known-a
 enum-known-a c = search needs

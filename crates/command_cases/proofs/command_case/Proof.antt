@@ -5,9 +5,6 @@ use lib.Seq.{length-take-le}
 use borrow.Author.Needs.{needs}
 use Rattle.command_cases.proofs.command_case.Statement.{statement}
 use Rattle.command_cases.proofs.command_case.Tie as tie
-use Rattle.command_cases.proofs.command_case.Reads as reads
-use Rattle.command_cases.proofs.command_case.Lts as lts
-use Rattle.command_cases.proofs.read_alone.Reads as read-alone-reads
 
 returns : tie.Need-returns
 returns c = search needs

@@ -1,13 +1,8 @@
 use Prim.Native.Nat.{_-_}
-use native.Mathlib.Omega.{arith}
 use lib.ListN.{length}
 use borrow.Author.Needs.{needs}
 use Rattle.command_cases.proofs.print_bytes.Statement.{statement}
 use Rattle.command_cases.proofs.print_bytes.Tie as tie
-use Rattle.command_cases.proofs.print_bytes.Reads as reads
-use Rattle.command_cases.proofs.print_bytes.Lts as lts
-use Rattle.command_cases.proofs.print_byte.Reads as print-byte-reads
-use Rattle.io.proofs.write_all.Reads as write-all-reads
 
 abbrev Inv-loop : tie.InvT-loop
 Inv-loop room i₀ t3 i = Unit {0}

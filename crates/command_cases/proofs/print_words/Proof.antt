@@ -1,13 +1,8 @@
 use Prim.Native.Nat.{_-_}
-use native.Mathlib.Omega.{arith}
 use lib.ListN.{length}
 use borrow.Author.Needs.{needs}
 use Rattle.command_cases.proofs.print_words.Statement.{statement}
 use Rattle.command_cases.proofs.print_words.Tie as tie
-use Rattle.command_cases.proofs.print_words.Reads as reads
-use Rattle.command_cases.proofs.print_words.Lts as lts
-use Rattle.command_cases.proofs.print_hex.Reads as print-hex-reads
-use Rattle.io.proofs.write_all.Reads as write-all-reads
 
 abbrev Inv-loop : tie.InvT-loop
 Inv-loop room i₀ t3 i = Unit {0}

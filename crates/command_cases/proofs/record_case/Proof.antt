@@ -5,10 +5,6 @@ use lib.Seq.{length-take-le}
 use borrow.Author.Needs.{needs}
 use Rattle.command_cases.proofs.record_case.Statement.{statement}
 use Rattle.command_cases.proofs.record_case.Tie as tie
-use Rattle.command_cases.proofs.record_case.Reads as reads
-use Rattle.command_cases.proofs.record_case.Lts as lts
-use Rattle.command_cases.proofs.write_alone.Reads as write-alone-reads
-use Rattle.fields.proofs.number32.Reads as number32-reads
 
 number32-requires : tie.Need-number32-requires
 number32-requires c κs = search needs

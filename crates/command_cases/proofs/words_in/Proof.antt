@@ -3,12 +3,8 @@ use lib.ListN.{length-set}
 use Prim.Native.Nat.{_-_, _≤_}
 use native.Mathlib.Omega.{arith}
 use lib.ListN.{length}
-use borrow.Author.Needs.{needs}
 use Rattle.command_cases.proofs.words_in.Statement.{statement}
 use Rattle.command_cases.proofs.words_in.Tie as tie
-use Rattle.command_cases.proofs.words_in.Reads as reads
-use Rattle.command_cases.proofs.words_in.Lts as lts
-use Rattle.fields.proofs.number32.Reads as number32-reads
 
 abbrev Inv-loop : tie.InvT-loop
 Inv-loop case words₀ i₀ words i = (i ≤ 12) × (length words ≡ 12)

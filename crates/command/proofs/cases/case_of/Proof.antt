@@ -3,9 +3,6 @@ use Rattle.command.specs.Cases.{caseOf}
 use borrow.Author.Needs.{needs}
 use Rattle.command.proofs.cases.case_of.Statement.{statement}
 use Rattle.command.proofs.cases.case_of.Tie as tie
-use Rattle.command.proofs.cases.case_of.Reads as reads
-use Rattle.command.proofs.cases.case_of.Lts as lts
-use Rattle.prediction.proofs.vector_of.Reads as vector-of-reads
 
 vector-of-requires : tie.Need-vector-of-requires
 vector-of-requires c κs = search needs

@@ -2,9 +2,6 @@ use Rattle.command.specs.Cases.{motionOf}
 use borrow.Author.Needs.{needs}
 use Rattle.command.proofs.cases.inter_motion.Statement.{statement}
 use Rattle.command.proofs.cases.inter_motion.Tie as tie
-use Rattle.command.proofs.cases.inter_motion.Reads as reads
-use Rattle.command.proofs.cases.inter_motion.Lts as lts
-use Rattle.prediction.proofs.word_of.Reads as word-of-reads
 
 enum-known-by : tie.Need-enum-known-by
 enum-known-by c = search needs

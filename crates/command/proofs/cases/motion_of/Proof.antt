@@ -2,9 +2,6 @@ use Rattle.command.specs.Cases.{motionOf}
 use borrow.Author.Needs.{needs}
 use Rattle.command.proofs.cases.motion_of.Statement.{statement}
 use Rattle.command.proofs.cases.motion_of.Tie as tie
-use Rattle.command.proofs.cases.motion_of.Reads as reads
-use Rattle.command.proofs.cases.motion_of.Lts as lts
-use Rattle.command.proofs.cases.inter_motion.Reads as inter-motion-reads
 
 enum-told : tie.Need-enum-told
 enum-told c = search needs

@@ -2,8 +2,6 @@ use borrow.Author.Tests.{ne-eqb}
 use Rattle.command.specs.Headers.{headerOf, lookUp, table}
 use Rattle.command.proofs.headers.read_header.Statement.{statement}
 use Rattle.command.proofs.headers.read_header.Tie as tie
-use Rattle.command.proofs.headers.read_header.Reads as reads
-use Rattle.command.proofs.headers.read_header.Lts as lts
 
 returns : tie.Need-returns
 unfolding headerOf lookUp table

@@ -3,11 +3,6 @@ use mathlib.Core.Path.{refl}
 use borrow.Author.Needs.{needs}
 use Rattle.command.proofs.reading.assembled.Statement.{statement}
 use Rattle.command.proofs.reading.assembled.Tie as tie
-use Rattle.command.proofs.reading.assembled.Reads as reads
-use Rattle.command.proofs.reading.assembled.Lts as lts
-use Rattle.command.proofs.reading.flags_in.Reads as flags-in-reads
-use Rattle.fields.proofs.is_set.Reads as is-set-reads
-use Rattle.fields.proofs.bits.Reads as bits-reads
 
 flags-in-requires : tie.Need-flags-in-requires
 flags-in-requires c κs = search needs

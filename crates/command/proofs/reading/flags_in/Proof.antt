@@ -2,9 +2,6 @@ use Rattle.command.proofs.CommandLaws.{same-flags}
 use borrow.Author.Needs.{needs}
 use Rattle.command.proofs.reading.flags_in.Statement.{statement}
 use Rattle.command.proofs.reading.flags_in.Tie as tie
-use Rattle.command.proofs.reading.flags_in.Reads as reads
-use Rattle.command.proofs.reading.flags_in.Lts as lts
-use Rattle.fields.proofs.is_set.Reads as is-set-reads
 
 is-set-requires : tie.Need-is-set-requires
 is-set-requires c κs = search needs

@@ -1,10 +1,6 @@
 use borrow.Author.Needs.{needs}
 use Rattle.command.proofs.reading.kind_in.Statement.{statement}
 use Rattle.command.proofs.reading.kind_in.Tie as tie
-use Rattle.command.proofs.reading.kind_in.Reads as reads
-use Rattle.command.proofs.reading.kind_in.Lts as lts
-use Rattle.fields.proofs.is_set.Reads as is-set-reads
-use Rattle.fields.proofs.bits.Reads as bits-reads
 
 is-set-requires : tie.Need-is-set-requires
 is-set-requires c κs = search needs

@@ -5,12 +5,6 @@ use Rattle.command.specs.Macroblocks.{macroblockOf}
 use borrow.Author.Needs.{needs}
 use Rattle.command.proofs.reading.macroblock_of.Statement.{statement}
 use Rattle.command.proofs.reading.macroblock_of.Tie as tie
-use Rattle.command.proofs.reading.macroblock_of.Reads as reads
-use Rattle.command.proofs.reading.macroblock_of.Lts as lts
-use Rattle.command.proofs.cases.case_of.Reads as case-of-reads
-use Rattle.command.proofs.reading.assembled.Reads as assembled-reads
-use Rattle.command.proofs.reading.motion_in.Reads as motion-in-reads
-use Rattle.command.proofs.reading.word_at.Reads as word-at-reads
 
 motion-in-requires : tie.Need-motion-in-requires
 motion-in-requires c κs = search needs

@@ -1,10 +1,6 @@
 use borrow.Author.Needs.{needs}
 use Rattle.command.proofs.reading.motion_in.Statement.{statement}
 use Rattle.command.proofs.reading.motion_in.Tie as tie
-use Rattle.command.proofs.reading.motion_in.Reads as reads
-use Rattle.command.proofs.reading.motion_in.Lts as lts
-use Rattle.command.proofs.reading.kind_in.Reads as kind-in-reads
-use Rattle.command.proofs.reading.word_at.Reads as word-at-reads
 
 word-at-requires : tie.Need-word-at-requires
 word-at-requires c κs = search needs

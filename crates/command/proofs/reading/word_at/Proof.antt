@@ -4,8 +4,6 @@ use mathlib.Core.Path.{sym}
 use borrow.Author.Needs.{needs}
 use Rattle.command.proofs.reading.word_at.Statement.{statement}
 use Rattle.command.proofs.reading.word_at.Tie as tie
-use Rattle.command.proofs.reading.word_at.Reads as reads
-use Rattle.command.proofs.reading.word_at.Lts as lts
 
 mul-result : tie.Need-mul-result
 mul-result c = search needs

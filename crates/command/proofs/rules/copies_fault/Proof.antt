@@ -6,12 +6,6 @@ use mathlib.Core.Path.{ap, _∙_}
 use borrow.Author.Needs.{needs}
 use Rattle.command.proofs.rules.copies_fault.Statement.{statement}
 use Rattle.command.proofs.rules.copies_fault.Tie as tie
-use Rattle.command.proofs.rules.copies_fault.Reads as reads
-use Rattle.command.proofs.rules.copies_fault.Lts as lts
-use Rattle.command.proofs.reading.motion_in.Reads as motion-in-reads
-use Rattle.command.proofs.reading.word_at.Reads as word-at-reads
-use Rattle.command.proofs.rules.vector_fault.Reads as vector-fault-reads
-use Rattle.command.proofs.writing.vector_words.Reads as vector-words-reads
 
 motion-in-requires : tie.Need-motion-in-requires
 motion-in-requires c κs = search needs

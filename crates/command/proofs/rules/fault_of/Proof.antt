@@ -5,14 +5,6 @@ use Rattle.command.specs.Rules.{keptBy, fieldRules, vectorRules, copied,
 use borrow.Author.Needs.{needs}
 use Rattle.command.proofs.rules.fault_of.Statement.{statement}
 use Rattle.command.proofs.rules.fault_of.Tie as tie
-use Rattle.command.proofs.rules.fault_of.Reads as reads
-use Rattle.command.proofs.rules.fault_of.Lts as lts
-use Rattle.answers.proofs.earlier.Reads as earlier-reads
-use Rattle.command.proofs.reading.macroblock_of.Reads as macroblock-of-reads
-use Rattle.command.proofs.reading.word_at.Reads as word-at-reads
-use Rattle.command.proofs.rules.copies_fault.Reads as copies-fault-reads
-use Rattle.command.proofs.rules.field_fault.Reads as field-fault-reads
-use Rattle.command.proofs.rules.kept_by.Reads as kept-by-reads
 
 macroblock-of-requires : tie.Need-macroblock-of-requires
 macroblock-of-requires c κs = search needs

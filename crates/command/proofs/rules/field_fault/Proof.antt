@@ -9,10 +9,6 @@ use Rattle.command.specs.Rules.{fieldRules}
 use borrow.Author.Needs.{needs}
 use Rattle.command.proofs.rules.field_fault.Statement.{statement}
 use Rattle.command.proofs.rules.field_fault.Tie as tie
-use Rattle.command.proofs.rules.field_fault.Reads as reads
-use Rattle.command.proofs.rules.field_fault.Lts as lts
-use Rattle.command.proofs.rules.type_permitted.Reads as type-permitted-reads
-use Rattle.command.proofs.rules.zero_bits.Reads as zero-bits-reads
 
 -- what the code's tests answered, and the table over it
 abbrev fixed1 : tie.After-type-permitted → Bool

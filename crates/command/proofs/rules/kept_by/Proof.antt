@@ -4,9 +4,6 @@ use Rattle.command.specs.Rules.{keptIf, keptBy}
 use borrow.Author.Needs.{needs}
 use Rattle.command.proofs.rules.kept_by.Statement.{statement}
 use Rattle.command.proofs.rules.kept_by.Tie as tie
-use Rattle.command.proofs.rules.kept_by.Reads as reads
-use Rattle.command.proofs.rules.kept_by.Lts as lts
-use Rattle.command.proofs.cases.is_intra.Reads as is-intra-reads
 
 is-intra-requires : tie.Need-is-intra-requires
 is-intra-requires c κs = search needs

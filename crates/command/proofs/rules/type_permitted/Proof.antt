@@ -1,10 +1,6 @@
 use borrow.Author.Needs.{needs}
 use Rattle.command.proofs.rules.type_permitted.Statement.{statement}
 use Rattle.command.proofs.rules.type_permitted.Tie as tie
-use Rattle.command.proofs.rules.type_permitted.Reads as reads
-use Rattle.command.proofs.rules.type_permitted.Lts as lts
-use Rattle.fields.proofs.is_set.Reads as is-set-reads
-use Rattle.fields.proofs.bits.Reads as bits-reads
 
 bits-requires : tie.Need-bits-requires
 bits-requires c κs = search needs

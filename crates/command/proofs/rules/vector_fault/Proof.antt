@@ -4,8 +4,6 @@ use Rattle.answers.proofs.Judging.{in-order}
 use Rattle.command.specs.Rules.{vectorRules}
 use Rattle.command.proofs.rules.vector_fault.Statement.{statement}
 use Rattle.command.proofs.rules.vector_fault.Tie as tie
-use Rattle.command.proofs.rules.vector_fault.Reads as reads
-use Rattle.command.proofs.rules.vector_fault.Lts as lts
 
 returns : tie.Need-returns
 unfolding vectorRules

@@ -1,9 +1,6 @@
 use borrow.Author.Needs.{needs}
 use Rattle.command.proofs.rules.zero_bits.Statement.{statement}
 use Rattle.command.proofs.rules.zero_bits.Tie as tie
-use Rattle.command.proofs.rules.zero_bits.Reads as reads
-use Rattle.command.proofs.rules.zero_bits.Lts as lts
-use Rattle.fields.proofs.bits.Reads as bits-reads
 
 bits-requires : tie.Need-bits-requires
 bits-requires c κs = search needs

@@ -1,8 +1,6 @@
 use borrow.Author.Tests.{ne-eqb, eq-eqb}
 use Rattle.command.proofs.writing.type_of.Statement.{statement}
 use Rattle.command.proofs.writing.type_of.Tie as tie
-use Rattle.command.proofs.writing.type_of.Reads as reads
-use Rattle.command.proofs.writing.type_of.Lts as lts
 
 returns : tie.Need-returns
 returns c = simp (eq-eqb _ _ (c .if1 .taken))

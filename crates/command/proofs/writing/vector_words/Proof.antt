@@ -2,8 +2,6 @@ use borrow.Author.Tests.{ne-eqb}
 use Rattle.command.specs.Cases.{vectorWords}
 use Rattle.command.proofs.writing.vector_words.Statement.{statement}
 use Rattle.command.proofs.writing.vector_words.Tie as tie
-use Rattle.command.proofs.writing.vector_words.Reads as reads
-use Rattle.command.proofs.writing.vector_words.Lts as lts
 
 returns : tie.Need-returns
 unfolding vectorWords

@@ -4,11 +4,6 @@ use Rattle.fields.specs.Word.{withBits}
 use borrow.Author.Needs.{needs}
 use Rattle.command.proofs.writing.word1_of.Statement.{statement}
 use Rattle.command.proofs.writing.word1_of.Tie as tie
-use Rattle.command.proofs.writing.word1_of.Reads as reads
-use Rattle.command.proofs.writing.word1_of.Lts as lts
-use Rattle.fields.proofs.flag_of.Reads as flag-of-reads
-use Rattle.command.proofs.writing.type_of.Reads as type-of-reads
-use Rattle.fields.proofs.with_bits.Reads as with-bits-reads
 
 flag-of-requires : tie.Need-flag-of-requires
 flag-of-requires c κs = search needs

@@ -3,9 +3,6 @@ use mathlib.Core.Path.{refl, _∙_}
 use borrow.Author.Needs.{needs}
 use Rattle.command.proofs.writing.word2_of.Statement.{statement}
 use Rattle.command.proofs.writing.word2_of.Tie as tie
-use Rattle.command.proofs.writing.word2_of.Reads as reads
-use Rattle.command.proofs.writing.word2_of.Lts as lts
-use Rattle.fields.proofs.with_bits.Reads as with-bits-reads
 
 cast-column : tie.Need-cast-column
 cast-column c = search needs

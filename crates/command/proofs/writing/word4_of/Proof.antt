@@ -1,12 +1,8 @@
 use Rattle.fields.proofs.Packing.{same-put}
-use mathlib.Core.Path.{refl, _∙_}
+use mathlib.Core.Path.{_∙_}
 use borrow.Author.Needs.{needs}
 use Rattle.command.proofs.writing.word4_of.Statement.{statement}
 use Rattle.command.proofs.writing.word4_of.Tie as tie
-use Rattle.command.proofs.writing.word4_of.Reads as reads
-use Rattle.command.proofs.writing.word4_of.Lts as lts
-use Rattle.fields.proofs.flag_of.Reads as flag-of-reads
-use Rattle.fields.proofs.with_bits.Reads as with-bits-reads
 
 cast-quantiser : tie.Need-cast-quantiser
 cast-quantiser c = search needs

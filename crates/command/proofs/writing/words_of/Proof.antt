@@ -7,14 +7,6 @@ use Rattle.command.proofs.CaseLaws.{vectors-listed}
 use borrow.Author.Needs.{needs}
 use Rattle.command.proofs.writing.words_of.Statement.{statement}
 use Rattle.command.proofs.writing.words_of.Tie as tie
-use Rattle.command.proofs.writing.words_of.Reads as reads
-use Rattle.command.proofs.writing.words_of.Lts as lts
-use Rattle.command.proofs.cases.motion_of.Reads as motion-of-reads
-use Rattle.command.proofs.writing.vector_words.Reads as vector-words-reads
-use Rattle.command.proofs.writing.word1_of.Reads as word1-of-reads
-use Rattle.command.proofs.writing.word2_of.Reads as word2-of-reads
-use Rattle.command.proofs.writing.word3_of.Reads as word3-of-reads
-use Rattle.command.proofs.writing.word4_of.Reads as word4-of-reads
 
 motion-of-requires : tie.Need-motion-of-requires
 motion-of-requires c κs = search needs

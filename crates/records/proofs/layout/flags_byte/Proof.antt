@@ -1,18 +1,13 @@
 use mathlib.Core.Path.{_≡_, sym, ap, subst, _∙_}
-use native.Mathlib.Omega.{arith}
 use mir.Syntax.{w8}
 use mir.Val.{Fits}
 use Rattle.fields.specs.Word.{withBits, packed}
 use Rattle.fields.proofs.Packing.{same-put}
 use Rattle.records.specs.Records.{flagFields}
-use Rattle.records.proofs.FlagsByte.{flags-lt}
+use Rattle.records.proofs.FlagsByte.{flags-fit}
 use borrow.Author.Needs.{needs}
 use Rattle.records.proofs.layout.flags_byte.Statement.{statement}
 use Rattle.records.proofs.layout.flags_byte.Tie as tie
-use Rattle.records.proofs.layout.flags_byte.Reads as reads
-use Rattle.records.proofs.layout.flags_byte.Lts as lts
-use Rattle.fields.proofs.flag_of.Reads as flag-of-reads
-use Rattle.fields.proofs.with_bits.Reads as with-bits-reads
 
 whole : (c : tie.After-with-bits6) → c .with-bits6 .result ≡ packed (flagFields (c .before .before .before .before .before .before .before .before .before .before .before .before .args .flags))
 whole c = c .with-bits6 .ensures ∙ same-put 0 0 (c .before .before .with-bits5 .ensures ∙ same-put 1 1 (c .before .before .before .before .with-bits4 .ensures ∙ same-put 2 2 (c .before .before .before .before .before .before .with-bits3 .ensures ∙ same-put 3 3 (c .before .before .before .before .before .before .before .before .with-bits2 .ensures ∙ same-put 4 4 (c .before .before .before .before .before .before .before .before .before .before .with-bits .ensures ∙ ap (withBits 0 5 5) (c .before .before .before .before .before .before .before .before .before .before .before .flag-of .ensures)) (c .before .before .before .before .before .before .before .before .before .flag-of2 .ensures)) (c .before .before .before .before .before .before .before .flag-of3 .ensures)) (c .before .before .before .before .before .flag-of4 .ensures)) (c .before .before .before .flag-of5 .ensures)) (c .before .flag-of6 .ensures)
@@ -54,7 +49,7 @@ with-bits-requires-6 : tie.Need-with-bits-requires-6
 with-bits-requires-6 c κs = search needs
 
 cast-result : tie.Need-cast-result
-cast-result c = let below = flags-lt (c .before .before .before .before .before .before .before .before .before .before .before .before .args .flags) in subst (Fits w8) (sym (whole c)) (record { fits = omega arith })
+cast-result c = subst (Fits w8) (sym (whole c)) (record { fits = flags-fit (c .before .before .before .before .before .before .before .before .before .before .before .before .args .flags) })
 
 returns : tie.Need-returns
 returns c = whole c

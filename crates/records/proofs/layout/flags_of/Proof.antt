@@ -2,9 +2,6 @@ use Rattle.command.proofs.CommandLaws.{same-flags}
 use borrow.Author.Needs.{needs}
 use Rattle.records.proofs.layout.flags_of.Statement.{statement}
 use Rattle.records.proofs.layout.flags_of.Tie as tie
-use Rattle.records.proofs.layout.flags_of.Reads as reads
-use Rattle.records.proofs.layout.flags_of.Lts as lts
-use Rattle.fields.proofs.is_set.Reads as is-set-reads
 
 is-set-requires : tie.Need-is-set-requires
 is-set-requires c κs = search needs

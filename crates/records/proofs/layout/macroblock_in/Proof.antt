@@ -6,13 +6,6 @@ use Rattle.records.specs.Records.{flagsOf, macroblockIn}
 use borrow.Author.Needs.{needs}
 use Rattle.records.proofs.layout.macroblock_in.Statement.{statement}
 use Rattle.records.proofs.layout.macroblock_in.Tie as tie
-use Rattle.records.proofs.layout.macroblock_in.Reads as reads
-use Rattle.records.proofs.layout.macroblock_in.Lts as lts
-use Rattle.command.proofs.case_of.Reads as case-of-reads
-use Rattle.records.proofs.layout.flags_of.Reads as flags-of-reads
-use Rattle.records.proofs.layout.motion_in.Reads as motion-in-reads
-use Rattle.records.proofs.parts.number16_at.Reads as number16-at-reads
-use Rattle.records.proofs.parts.number8_at.Reads as number8-at-reads
 
 motion-in-requires : tie.Need-motion-in-requires
 motion-in-requires c κs = search needs

@@ -1,10 +1,6 @@
 use borrow.Author.Needs.{needs}
 use Rattle.records.proofs.layout.motion_in.Statement.{statement}
 use Rattle.records.proofs.layout.motion_in.Tie as tie
-use Rattle.records.proofs.layout.motion_in.Reads as reads
-use Rattle.records.proofs.layout.motion_in.Lts as lts
-use Rattle.records.proofs.parts.number32_at.Reads as number32-at-reads
-use Rattle.records.proofs.parts.number8_at.Reads as number8-at-reads
 
 number8-at-requires : tie.Need-number8-at-requires
 number8-at-requires c κs = search needs

@@ -8,13 +8,6 @@ use Rattle.records.proofs.Spelling.{flag-fits, spelled}
 use borrow.Author.Needs.{needs}
 use Rattle.records.proofs.layout.record_of.Statement.{statement}
 use Rattle.records.proofs.layout.record_of.Tie as tie
-use Rattle.records.proofs.layout.record_of.Reads as reads
-use Rattle.records.proofs.layout.record_of.Lts as lts
-use Rattle.command.proofs.motion_of.Reads as motion-of-reads
-use Rattle.fields.proofs.bytes16.Reads as bytes16-reads
-use Rattle.fields.proofs.bytes32.Reads as bytes32-reads
-use Rattle.fields.proofs.flag_of.Reads as flag-of-reads
-use Rattle.records.proofs.layout.flags_byte.Reads as flags-byte-reads
 
 motion-of-requires : tie.Need-motion-of-requires
 motion-of-requires c κs = search needs

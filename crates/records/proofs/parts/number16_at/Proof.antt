@@ -4,10 +4,6 @@ use native.Mathlib.Omega.{arith}
 use borrow.Author.Needs.{needs}
 use Rattle.records.proofs.parts.number16_at.Statement.{statement}
 use Rattle.records.proofs.parts.number16_at.Tie as tie
-use Rattle.records.proofs.parts.number16_at.Reads as reads
-use Rattle.records.proofs.parts.number16_at.Lts as lts
-use Rattle.fields.proofs.number16.Reads as number16-reads
-use Rattle.records.proofs.parts.byte_at.Reads as byte-at-reads
 
 byte-at-requires : tie.Need-byte-at-requires
 byte-at-requires c κs = search needs

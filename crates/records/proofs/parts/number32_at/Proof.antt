@@ -4,10 +4,6 @@ use native.Mathlib.Omega.{arith}
 use borrow.Author.Needs.{needs}
 use Rattle.records.proofs.parts.number32_at.Statement.{statement}
 use Rattle.records.proofs.parts.number32_at.Tie as tie
-use Rattle.records.proofs.parts.number32_at.Reads as reads
-use Rattle.records.proofs.parts.number32_at.Lts as lts
-use Rattle.fields.proofs.number32.Reads as number32-reads
-use Rattle.records.proofs.parts.byte_at.Reads as byte-at-reads
 
 byte-at-requires : tie.Need-byte-at-requires
 byte-at-requires c κs = search needs

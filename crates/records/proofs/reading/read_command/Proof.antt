@@ -7,12 +7,6 @@ use Rattle.records.proofs.LentRoom.{refuses, lacks-room, writes, copied
 use borrow.Author.Needs.{needs}
 use Rattle.records.proofs.reading.read_command.Statement.{statement}
 use Rattle.records.proofs.reading.read_command.Tie as tie
-use Rattle.records.proofs.reading.read_command.Reads as reads
-use Rattle.records.proofs.reading.read_command.Lts as lts
-use Rattle.bytes.proofs.copy.Reads as copy-reads
-use Rattle.command.proofs.macroblock_of.Reads as macroblock-of-reads
-use Rattle.command.proofs.fault_of.Reads as fault-of-reads
-use Rattle.records.proofs.layout.record_of.Reads as record-of-reads
 
 returns : tie.Need-returns
 unfolding readAnswer readRoom

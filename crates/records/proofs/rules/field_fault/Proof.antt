@@ -2,10 +2,6 @@ use Rattle.records.specs.RecordRules.{byteRules}
 use borrow.Author.Needs.{needs}
 use Rattle.records.proofs.rules.field_fault.Statement.{statement}
 use Rattle.records.proofs.rules.field_fault.Tie as tie
-use Rattle.records.proofs.rules.field_fault.Reads as reads
-use Rattle.records.proofs.rules.field_fault.Lts as lts
-use Rattle.records.proofs.parts.number8_at.Reads as number8-at-reads
-use Rattle.records.proofs.rules.first_of.Reads as first-of-reads
 
 number8-at-requires : tie.Need-number8-at-requires
 number8-at-requires c κs = search needs

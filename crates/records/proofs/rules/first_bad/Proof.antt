@@ -7,14 +7,6 @@ use Rattle.records.specs.RecordRules.{byteRules, zeroRules, recordRules}
 use borrow.Author.Needs.{needs}
 use Rattle.records.proofs.rules.first_bad.Statement.{statement}
 use Rattle.records.proofs.rules.first_bad.Tie as tie
-use Rattle.records.proofs.rules.first_bad.Reads as reads
-use Rattle.records.proofs.rules.first_bad.Lts as lts
-use Rattle.answers.proofs.earlier.Reads as earlier-reads
-use Rattle.command.proofs.kept_by.Reads as kept-by-reads
-use Rattle.records.proofs.layout.macroblock_in.Reads as macroblock-in-reads
-use Rattle.records.proofs.parts.number8_at.Reads as number8-at-reads
-use Rattle.records.proofs.rules.field_fault.Reads as field-fault-reads
-use Rattle.records.proofs.rules.zeros_fault.Reads as zeros-fault-reads
 
 macroblock-in-requires : tie.Need-macroblock-in-requires
 macroblock-in-requires c κs = search needs

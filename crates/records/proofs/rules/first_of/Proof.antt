@@ -1,5 +1,4 @@
 use mathlib.Core.Path.{sym, _∙_}
-use mathlib.Core.Bool.{Bool}
 use mathlib.Core.List.{List, [], _∷_}
 use borrow.Author.Tests.{not-true, not-false}
 use Rattle.answers.specs.Answers.{Rule}
@@ -8,8 +7,6 @@ use Rattle.records.specs.Layout.{kindPart, skipPart, patternPart, quanti
 use Rattle.records.specs.RecordRules.{bad}
 use Rattle.records.proofs.rules.first_of.Statement.{statement}
 use Rattle.records.proofs.rules.first_of.Tie as tie
-use Rattle.records.proofs.rules.first_of.Reads as reads
-use Rattle.records.proofs.rules.first_of.Lts as lts
 
 abbrev table : tie.Start → List Rule
 table c =

@@ -2,9 +2,6 @@ use mathlib.Core.Path.{sym, _∙_}
 use borrow.Author.Needs.{needs}
 use Rattle.records.proofs.rules.unused_fault.Statement.{statement}
 use Rattle.records.proofs.rules.unused_fault.Tie as tie
-use Rattle.records.proofs.rules.unused_fault.Reads as reads
-use Rattle.records.proofs.rules.unused_fault.Lts as lts
-use Rattle.records.proofs.rules.zero_fault.Reads as zero-fault-reads
 
 returns : tie.Need-returns
 returns c = simp (c .if1 .taken)

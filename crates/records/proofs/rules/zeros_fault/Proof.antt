@@ -7,10 +7,6 @@ use Rattle.records.specs.RecordRules.{hasForward, hasBackward, unused, z
 use borrow.Author.Needs.{needs}
 use Rattle.records.proofs.rules.zeros_fault.Statement.{statement}
 use Rattle.records.proofs.rules.zeros_fault.Tie as tie
-use Rattle.records.proofs.rules.zeros_fault.Reads as reads
-use Rattle.records.proofs.rules.zeros_fault.Lts as lts
-use Rattle.answers.proofs.earlier.Reads as earlier-reads
-use Rattle.records.proofs.rules.unused_fault.Reads as unused-fault-reads
 
 unused-fault-requires : tie.Need-unused-fault-requires
 unused-fault-requires c κs = search needs

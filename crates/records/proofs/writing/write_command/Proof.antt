@@ -1,8 +1,5 @@
-use mathlib.Core.Path.{sym, ap, subst, _∙_}
-use mathlib.Core.List.{List, _++_}
-use Prim.Native.Nat.{ℕ}
+use mathlib.Core.Path.{sym, ap, _∙_}
 use denote.Ref.{now}
-use lib.ListN.{length, drop}
 use Rattle.command.specs.Macroblocks.{wordsOf}
 use Rattle.records.specs.Alone.{recordFault, writeAnswer, writeRoom}
 use Rattle.records.specs.Records.{macroblockIn}
@@ -10,12 +7,6 @@ use Rattle.records.proofs.LentRoom.{refuses, lacks-room, writes, placed
 use borrow.Author.Needs.{needs}
 use Rattle.records.proofs.writing.write_command.Statement.{statement}
 use Rattle.records.proofs.writing.write_command.Tie as tie
-use Rattle.records.proofs.writing.write_command.Reads as reads
-use Rattle.records.proofs.writing.write_command.Lts as lts
-use Rattle.command.proofs.words_of.Reads as words-of-reads
-use Rattle.records.proofs.writing.copy_words.Reads as copy-words-reads
-use Rattle.records.proofs.layout.macroblock_in.Reads as macroblock-in-reads
-use Rattle.records.proofs.rules.first_bad.Reads as first-bad-reads
 
 returns : tie.Need-returns
 unfolding writeAnswer writeRoom
