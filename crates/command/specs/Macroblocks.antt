@@ -47,7 +47,8 @@ flagsIn word4 =
       «no_skip_conversion» = isSet (bits word4 25 25);
     }
 
--- The macroblock of words 1 to 4 and a case.
+-- The macroblock of words 1 to 4 and a case. Word 1: "31:16 carried .. 2 skip"; word 2: "row in 31:16, column in 15:0"; word 3:
+-- "maximum size 31:24, target size 23:16 .. pattern 11:6"; word 4: "4:0 quantiser".
 abbrev pub assembled : ℕ → ℕ → ℕ → ℕ → Case → Macroblock
 assembled w1 w2 w3 w4 case =
     record {
