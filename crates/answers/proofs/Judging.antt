@@ -174,7 +174,7 @@ abbrev accepted : Answer → Bool
 accepted Accepted = true
 accepted (Refused n p) = false
 
-no-accepted : {n p : ℕ} → Refused n p ≡ Accepted → ⊥
+pub no-accepted : {n p : ℕ} → Refused n p ≡ Accepted → ⊥
 no-accepted e = no (ap accepted e)
 
 -- Nothing is refused exactly when every rule holds.

@@ -87,7 +87,7 @@ module _ (m : Macroblock) where
       same-flags a b c d e g
 
   -- A legal macroblock comes back from its words.
-  quantiser-lt : Legal m → m .quantiser < 32
+  pub quantiser-lt : Legal m → m .quantiser < 32
   unfolding keptBy
   quantiser-lt l = let most = leb-true (m .quantiser) 31 (and-right (leb 1 (m .quantiser)) (leb (m .quantiser) 31) (l .quantiser-permitted)) in omega arith
 

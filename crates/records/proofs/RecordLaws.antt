@@ -29,7 +29,7 @@ use Rattle.command.specs.declared.Kept.{Kept}
 use Rattle.command.specs.declared.Macroblock.{Macroblock}
 use Rattle.command.specs.declared.Motion.{Motion}
 use Rattle.command.proofs.CaseLaws.{and-left, and-right, kind-most, case-fits, case-back, forward-lt, backward-lt}
-use Rattle.command.proofs.CommandLaws.{flag-back, bit-back, bits-lt, both-true, same-flags, same-macroblock}
+use Rattle.command.proofs.CommandLaws.{flag-back, bit-back, bits-lt, both-true, same-flags, same-macroblock, quantiser-lt}
 use Rattle.records.specs.Layout.{Part, columnPart, rowPart, upperPart, kindPart, skipPart, patternPart, maxSizePart, targetSizePart, quantiserPart, flagsPart, fillerPart, forwardPart, backwardPart}
 use Rattle.records.specs.Records.{flagFields, flagsOf, valueAt, motionIn, recordOf, macroblockIn}
 use Rattle.records.specs.RecordRules.{hasForward, hasBackward, zeroBytes, unused, byteRules, zeroRules, recordRules}
@@ -67,16 +67,12 @@ module _ (m : Macroblock) (l : Legal m) where
       let b = number-back 4 (motionOf (m .case) .backward) (backward-lt (m .case) (l .case-fits)) in
       same-motion k f b
 
-  quantiser-lt : m .quantiser < 32
-  unfolding keptBy
-  quantiser-lt = let most = leb-true (m .quantiser) 31 (and-right (leb 1 (m .quantiser)) (leb (m .quantiser) 31) (l .quantiser-permitted)) in omega arith
-
   -- A legal macroblock comes back from its record.
   pub record-back : macroblockIn (recordOf m) ≡ m
   unfolding recordOf macroblockIn
   record-back =
       let p = l .pattern-fits in
-      let q = quantiser-lt in
+      let q = quantiser-lt m l in
       same-macroblock
       (number-back 2 (m .column) (l .column-fits))
       (number-back 2 (m .row) (l .row-fits))

@@ -1,11 +1,11 @@
 -- Either way back gives the same bits: a command read and written again, and a record written and read again.
-use mathlib.Core.Path.{_≡_, refl, sym, ap, subst, _∙_}
+use mathlib.Core.Path.{_≡_, refl, sym, ap, _∙_}
 use mathlib.Core.Bool.{Bool, true, false, cond, not}
 use mathlib.Core.List.{List, [], _++_, append-nil}
 use Prim.Native.Nat.{ℕ, suc, _≤_}
 use native.Mathlib.Omega.{arith}
 use borrow.Author.Tests.{eqb-true, ltb-false}
-use lib.Dec.{T, eqb, ltb}
+use lib.Dec.{eqb, ltb}
 use lib.ListN.{length, take, drop, replicate}
 use lib.Seq.{take-at}
 use Rattle.fields.specs.Bytes.{elements}
@@ -14,6 +14,7 @@ use Rattle.fields.proofs.LittleEndian.{Bytes}
 use Rattle.answers.specs.Answers.{judged}
 use Rattle.answers.specs.declared.Answer.{Answer}
 use Rattle.answers.specs.declared.Answer.the-variants.{Accepted, Refused}
+use Rattle.answers.proofs.Judging.{no-accepted}
 use Rattle.command.specs.Cases.{motionOf}
 use Rattle.command.specs.Headers.{macroblockHeader}
 use Rattle.command.specs.Legal.{Words, Command, Legal}
@@ -28,13 +29,6 @@ use Rattle.records.specs.RecordRules.{recordRules}
 use Rattle.records.proofs.LentRoom.{writes, whole, right-length}
 use Rattle.records.proofs.RecordLaws.{record-back, record-kept, record-legal, bytes-again}
 
-no : {n p : ℕ} → Refused n p ≡ Accepted → ⊥
-no e = subst T (ap accepted e) tt
-  where
-    accepted : Answer → Bool
-    accepted Accepted = false
-    accepted (Refused n p) = true
-
 -- what an accepted command keeps
 pub read-kept : (ws : List ℕ) → readFault ws ≡ Accepted → (wordAt ws 0 ≡ macroblockHeader) × (9 ≤ length ws) × (judged (commandRules ws) ≡ Accepted)
 unfolding readFault
@@ -46,9 +40,9 @@ read-kept ws e = by (eqb (length ws) 0) (eqb (wordAt ws 0) macroblockHeader) (lt
         → ltb (length ws) 9 ≡ z
         → cond x (Refused 1 0) (cond (not y) (Refused 2 0) (cond z (Refused 1 (length ws)) (judged (commandRules ws)))) ≡ Accepted
         → (wordAt ws 0 ≡ macroblockHeader) × (9 ≤ length ws) × (judged (commandRules ws) ≡ Accepted)
-    by true y z ex ey ez e = absurd (no e)
-    by false false z ex ey ez e = absurd (no e)
-    by false true true ex ey ez e = absurd (no e)
+    by true y z ex ey ez e = absurd (no-accepted e)
+    by false false z ex ey ez e = absurd (no-accepted e)
+    by false true true ex ey ez e = absurd (no-accepted e)
     by false true false ex ey ez e = (eqb-true (wordAt ws 0) macroblockHeader ey, ltb-false (length ws) 9 ez, e)
 
 -- Its first nine words are a command, and no other word is looked at.
@@ -101,7 +95,7 @@ module _ (bs : List ℕ) (h : Bytes bs) (e : recordFault bs ≡ Accepted) where
     where
       by : (x : Bool) → eqb (length bs) 24 ≡ x → cond x (judged (recordRules bs)) (Refused 15 0) ≡ Accepted → (length bs ≡ 24) × (judged (recordRules bs) ≡ Accepted)
       by true ex e = (eqb-true (length bs) 24 ex, e)
-      by false ex e = absurd (no e)
+      by false ex e = absurd (no-accepted e)
 
   legal-written : Legal (macroblockIn bs)
   legal-written = record-legal bs (kept-length .0) h (kept-length .1)
@@ -123,12 +117,12 @@ module _ (fault : Answer) (needed : ℕ) (new room : List ℕ) where
   fits e = by fault refl e
     where
       room-for : (x : Bool) → ltb (length room) needed ≡ x → cond x (Refused 14 needed) Accepted ≡ Accepted → needed ≤ length room
-      room-for true ex e = absurd (no e)
+      room-for true ex e = absurd (no-accepted e)
       room-for false ex e = ltb-false (length room) needed ex
 
       by : (f : Answer) → fault ≡ f → next f (roomFor needed room) ≡ Accepted → (fault ≡ Accepted) × (needed ≤ length room)
       by Accepted ef e = (ef, room-for (ltb (length room) needed) refl e)
-      by (Refused n p) ef e = absurd (no e)
+      by (Refused n p) ef e = absurd (no-accepted e)
 
   front : next fault (roomFor needed room) ≡ Accepted → length new ≡ needed → take needed (lentAfter (next fault (roomFor needed room)) new room) ≡ new
   front e n = ap (λ (a : Answer). take needed (lentAfter a new room)) e ∙ take-at new (drop (length new) room) needed n

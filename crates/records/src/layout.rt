@@ -79,9 +79,9 @@ pub(crate) fn record_of(macroblock: Macroblock) -> [u8; 24]
 fn motion_in(bytes: &[u8]) -> Motion
     ensures { λ r. ⌜ r ≡ motionIn (now (bytes .entry)) ⌝ }
 {
-    let kind = parts::number8_at(bytes, 6);
-    let forward = parts::number32_at(bytes, 16);
-    let backward = parts::number32_at(bytes, 20);
+    let kind = parts::number8_at(bytes, parts::KIND);
+    let forward = parts::number32_at(bytes, parts::FORWARD);
+    let backward = parts::number32_at(bytes, parts::BACKWARD);
     Motion {
         kind,
         forward,
@@ -94,17 +94,17 @@ pub(crate) fn macroblock_in(bytes: &[u8]) -> Macroblock
     ensures { λ r. ⌜ r ≡ macroblockIn (now (bytes .entry)) ⌝ }
 {
     let case = command::case_of(motion_in(bytes));
-    let flags = flags_of(parts::number8_at(bytes, 12));
+    let flags = flags_of(parts::number8_at(bytes, parts::FLAGS));
     Macroblock {
-        column: parts::number16_at(bytes, 0),
-        row: parts::number16_at(bytes, 2),
-        upper: parts::number16_at(bytes, 4),
+        column: parts::number16_at(bytes, parts::COLUMN),
+        row: parts::number16_at(bytes, parts::ROW),
+        upper: parts::number16_at(bytes, parts::UPPER),
         case,
-        skip: parts::number8_at(bytes, 7) == 1,
-        pattern: parts::number8_at(bytes, 8),
-        max_size: parts::number8_at(bytes, 9),
-        target_size: parts::number8_at(bytes, 10),
-        quantiser: parts::number8_at(bytes, 11),
+        skip: parts::number8_at(bytes, parts::SKIP) == 1,
+        pattern: parts::number8_at(bytes, parts::PATTERN),
+        max_size: parts::number8_at(bytes, parts::MAX_SIZE),
+        target_size: parts::number8_at(bytes, parts::TARGET_SIZE),
+        quantiser: parts::number8_at(bytes, parts::QUANTISER),
         flags,
     }
 }

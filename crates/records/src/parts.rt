@@ -4,6 +4,33 @@ ghost use Prim.Native.Nat.{_≤_};
 ghost use lib.ListN.{getD};
 ghost use Rattle.fields.specs.Bytes.{numberOf, elements};
 
+// The first byte of each part; specs/Layout.antt has them with their counts.
+pub(crate) const COLUMN: usize = 0;
+
+pub(crate) const ROW: usize = 2;
+
+pub(crate) const UPPER: usize = 4;
+
+pub(crate) const KIND: usize = 6;
+
+pub(crate) const SKIP: usize = 7;
+
+pub(crate) const PATTERN: usize = 8;
+
+pub(crate) const MAX_SIZE: usize = 9;
+
+pub(crate) const TARGET_SIZE: usize = 10;
+
+pub(crate) const QUANTISER: usize = 11;
+
+pub(crate) const FLAGS: usize = 12;
+
+pub(crate) const FILLER: usize = 13;
+
+pub(crate) const FORWARD: usize = 16;
+
+pub(crate) const BACKWARD: usize = 20;
+
 // A byte, 0 where there is none.
 pub(crate) fn byte_at(bytes: &[u8], i: usize) -> u8
     ensures { λ r. ⌜ r ≡ getD (now (bytes .entry)) i 0 ⌝ }

@@ -59,10 +59,11 @@ fn first_of(kind: bool, skip: bool, pattern: bool, quantiser: bool, flags: bool)
 fn field_fault(bytes: &[u8], kept: Kept) -> Answer
     ensures { λ r. ⌜ r ≡ judged (byteRules (now (bytes .entry)) kept) ⌝ }
 {
-    let kind = parts::number8_at(bytes, 6) <= 3;
-    let skip = (parts::number8_at(bytes, 7) <= 1) & kept.intra_not_skipped;
-    let pattern = (parts::number8_at(bytes, 8) <= 63) & (kept.intra_pattern & kept.skip_pattern);
-    let flags = (parts::number8_at(bytes, 12) <= 63) & kept.skip_inside_slice;
+    let kind = parts::number8_at(bytes, parts::KIND) <= 3;
+    let skip = (parts::number8_at(bytes, parts::SKIP) <= 1) & kept.intra_not_skipped;
+    let pattern = (parts::number8_at(bytes, parts::PATTERN) <= 63)
+        & (kept.intra_pattern & kept.skip_pattern);
+    let flags = (parts::number8_at(bytes, parts::FLAGS) <= 63) & kept.skip_inside_slice;
     first_of(kind, skip, pattern, kept.quantiser, flags)
 }
 
@@ -71,9 +72,9 @@ fn zeros_fault(bytes: &[u8], kind: u8) -> Answer
 {
     let forward = (kind == 1) | (kind == 3);
     let backward = (kind == 2) | (kind == 3);
-    let filler = unused_fault(bytes, false, 13, 3);
-    let first = unused_fault(bytes, forward, 16, 4);
-    let second = unused_fault(bytes, backward, 20, 4);
+    let filler = unused_fault(bytes, false, parts::FILLER, 3);
+    let first = unused_fault(bytes, forward, parts::FORWARD, 4);
+    let second = unused_fault(bytes, backward, parts::BACKWARD, 4);
     answers::earlier(filler, answers::earlier(first, second))
 }
 
@@ -83,6 +84,6 @@ pub(crate) fn first_bad(bytes: &[u8]) -> Answer
 {
     let kept = command::kept_by(layout::macroblock_in(bytes));
     let fields = field_fault(bytes, kept);
-    let zeros = zeros_fault(bytes, parts::number8_at(bytes, 6));
+    let zeros = zeros_fault(bytes, parts::number8_at(bytes, parts::KIND));
     answers::earlier(fields, zeros)
 }
