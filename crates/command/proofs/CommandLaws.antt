@@ -20,28 +20,15 @@ use Rattle.command.specs.Rules.{keptBy, zeroBits, typePermitted, fieldRu
 use Rattle.command.specs.declared.Case.{Case}
 use Rattle.command.specs.declared.Case.the-variants.{Intra, Inter}
 use Rattle.command.specs.declared.Prediction.the-variants.{Forward, Backward, Both}
-use Rattle.command.specs.declared.Flags.{Flags}
 use Rattle.command.specs.declared.Macroblock.{Macroblock}
 use Rattle.command.proofs.CaseLaws.{and-left, and-right, vectors-four, vectors-listed, vectors-words, case-fits, vectors-again, case-again, copies-again, type-back}
+use Rattle.command.proofs.Congruence.{same-flags, same-macroblock}
 use Rattle.answers.proofs.Judging.{Hold, all-hold, none-broken, hold-both, hold-each}
 
 -- a flag in its bit
 pub flag-back : (b : Bool) → isSet (flag b % 2) ≡ b
 flag-back true = refl
 flag-back false = refl
-
-abbrev pub flagsMade : Bool → Bool → Bool → Bool → Bool → Bool → Flags
-flagsMade a b c d e f = record { «first_in_slice» = a; «last_in_slice» = b; «first_in_group» = c; «last_in_group» = d; clamp = e; «no_skip_conversion» = f }
-
-pub same-flags : {a b c d e f a′ b′ c′ d′ e′ f′ : Bool} → a ≡ a′ → b ≡ b′ → c ≡ c′ → d ≡ d′ → e ≡ e′ → f ≡ f′ → flagsMade a b c d e f ≡ flagsMade a′ b′ c′ d′ e′ f′
-same-flags ea eb ec ed ee ef = cc
-
-abbrev pub made : ℕ → ℕ → ℕ → Case → Bool → ℕ → ℕ → ℕ → ℕ → Flags → Macroblock
-made a b c d e f g h i j =
-    record { column = a; row = b; upper = c; case = d; skip = e; pattern = f; «max_size» = g; «target_size» = h; quantiser = i; flags = j }
-
-pub same-macroblock : {a b c a′ b′ c′ : ℕ} {d d′ : Case} {e e′ : Bool} {f g h i f′ g′ h′ i′ : ℕ} {j j′ : Flags} → a ≡ a′ → b ≡ b′ → c ≡ c′ → d ≡ d′ → e ≡ e′ → f ≡ f′ → g ≡ g′ → h ≡ h′ → i ≡ i′ → j ≡ j′ → made a b c d e f g h i j ≡ made a′ b′ c′ d′ e′ f′ g′ h′ i′ j′
-same-macroblock ea eb ec ed ee ef eg eh ei ej = cc
 
 same-four : {a b c d a′ b′ c′ d′ : ℕ} → a ≡ a′ → b ≡ b′ → c ≡ c′ → d ≡ d′ → a ∷ b ∷ c ∷ d ∷ [] ≡ a′ ∷ b′ ∷ c′ ∷ d′ ∷ []
 same-four ea eb ec ed = cc
@@ -86,11 +73,11 @@ module _ (m : Macroblock) where
       let g = ap isSet (packed-field (fields4 m) 25 25 tt) ∙ flag-back (f .«no_skip_conversion») in
       same-flags a b c d e g
 
-  -- A legal macroblock comes back from its words.
   pub quantiser-lt : Legal m → m .quantiser < 32
   unfolding keptBy
   quantiser-lt l = let most = leb-true (m .quantiser) 31 (and-right (leb 1 (m .quantiser)) (leb (m .quantiser) 31) (l .quantiser-permitted)) in omega arith
 
+  -- A legal macroblock comes back from its words.
   pub macroblock-back : Legal m → macroblockOf (wordsOf m) ≡ m
   unfolding macroblockOf wordsOf
   macroblock-back l =

@@ -10,7 +10,22 @@ use Rattle.command.specs.Macroblocks.{wordAt, motionIn, assembled}
 use Rattle.command.specs.Rules.{vectorRules, copied}
 use Rattle.answers.specs.Answers.{Rule, rule}
 use Rattle.command.specs.declared.Case.{Case}
+use Rattle.command.specs.declared.Flags.{Flags}
+use Rattle.command.specs.declared.Macroblock.{Macroblock}
 use Rattle.command.specs.declared.Kept.{Kept}
+
+abbrev pub flagsMade : Bool → Bool → Bool → Bool → Bool → Bool → Flags
+flagsMade a b c d e f = record { «first_in_slice» = a; «last_in_slice» = b; «first_in_group» = c; «last_in_group» = d; clamp = e; «no_skip_conversion» = f }
+
+pub same-flags : {a b c d e f a′ b′ c′ d′ e′ f′ : Bool} → a ≡ a′ → b ≡ b′ → c ≡ c′ → d ≡ d′ → e ≡ e′ → f ≡ f′ → flagsMade a b c d e f ≡ flagsMade a′ b′ c′ d′ e′ f′
+same-flags ea eb ec ed ee ef = cc
+
+abbrev pub made : ℕ → ℕ → ℕ → Case → Bool → ℕ → ℕ → ℕ → ℕ → Flags → Macroblock
+made a b c d e f g h i j =
+    record { column = a; row = b; upper = c; case = d; skip = e; pattern = f; «max_size» = g; «target_size» = h; quantiser = i; flags = j }
+
+pub same-macroblock : {a b c a′ b′ c′ : ℕ} {d d′ : Case} {e e′ : Bool} {f g h i f′ g′ h′ i′ : ℕ} {j j′ : Flags} → a ≡ a′ → b ≡ b′ → c ≡ c′ → d ≡ d′ → e ≡ e′ → f ≡ f′ → g ≡ g′ → h ≡ h′ → i ≡ i′ → j ≡ j′ → made a b c d e f g h i j ≡ made a′ b′ c′ d′ e′ f′ g′ h′ i′ j′
+same-macroblock ea eb ec ed ee ef eg eh ei ej = cc
 
 pub same-assembled : {a b c d a′ b′ c′ d′ : ℕ} {e e′ : Case} → a ≡ a′ → b ≡ b′ → c ≡ c′ → d ≡ d′ → e ≡ e′ → assembled a b c d e ≡ assembled a′ b′ c′ d′ e′
 same-assembled {a} {b} {c} {d} {a′} {b′} {c′} {d′} {e} {e′} ea eb ec ed ee =

@@ -1,6 +1,6 @@
 -- for the crates above
 pub mod CaseLaws
 pub mod CommandLaws
+pub mod Congruence
 -- for this crate alone
-mod Congruence
 mod Worked

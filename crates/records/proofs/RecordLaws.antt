@@ -29,7 +29,8 @@ use Rattle.command.specs.declared.Kept.{Kept}
 use Rattle.command.specs.declared.Macroblock.{Macroblock}
 use Rattle.command.specs.declared.Motion.{Motion}
 use Rattle.command.proofs.CaseLaws.{and-left, and-right, kind-most, case-fits, case-back, forward-lt, backward-lt}
-use Rattle.command.proofs.CommandLaws.{flag-back, bit-back, bits-lt, both-true, same-flags, same-macroblock, quantiser-lt}
+use Rattle.command.proofs.CommandLaws.{flag-back, bit-back, bits-lt, both-true, quantiser-lt}
+use Rattle.command.proofs.Congruence.{same-flags, same-macroblock}
 use Rattle.records.specs.Layout.{Part, columnPart, rowPart, upperPart, kindPart, skipPart, patternPart, maxSizePart, targetSizePart, quantiserPart, flagsPart, fillerPart, forwardPart, backwardPart}
 use Rattle.records.specs.Records.{flagFields, flagsOf, valueAt, motionIn, recordOf, macroblockIn}
 use Rattle.records.specs.RecordRules.{hasForward, hasBackward, zeroBytes, unused, byteRules, zeroRules, recordRules}

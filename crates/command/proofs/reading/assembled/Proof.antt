@@ -1,4 +1,4 @@
-use Rattle.command.proofs.CommandLaws.{same-macroblock}
+use Rattle.command.proofs.Congruence.{same-macroblock}
 use mathlib.Core.Path.{refl}
 use borrow.Author.Needs.{needs}
 use Rattle.command.proofs.reading.assembled.Statement.{statement}

@@ -1,4 +1,4 @@
-use Rattle.command.proofs.CommandLaws.{same-flags}
+use Rattle.command.proofs.Congruence.{same-flags}
 use borrow.Author.Needs.{needs}
 use Rattle.command.proofs.reading.flags_in.Statement.{statement}
 use Rattle.command.proofs.reading.flags_in.Tie as tie

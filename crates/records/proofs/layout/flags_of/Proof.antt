@@ -1,4 +1,4 @@
-use Rattle.command.proofs.CommandLaws.{same-flags}
+use Rattle.command.proofs.Congruence.{same-flags}
 use borrow.Author.Needs.{needs}
 use Rattle.records.proofs.layout.flags_of.Statement.{statement}
 use Rattle.records.proofs.layout.flags_of.Tie as tie

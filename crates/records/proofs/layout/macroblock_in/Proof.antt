@@ -1,4 +1,4 @@
-use Rattle.command.proofs.CommandLaws.{same-macroblock}
+use Rattle.command.proofs.Congruence.{same-macroblock}
 use Rattle.command.specs.Cases.{caseOf}
 use Rattle.fields.specs.Word.{isSet}
 use mathlib.Core.Path.{ap, _∙_}
