@@ -1,5 +1,5 @@
 -- Kinds and cases: four words for every case, and a case as numbers and back.
-use mathlib.Core.Path.{_≡_, refl, sym, ap, ap₂, subst}
+use mathlib.Core.Path.{_≡_, refl, sym, ap, ap₂, subst, _∙_}
 use mathlib.Core.Bool.{Bool, true, false, cond, _&&_}
 use mathlib.Core.List.{List, [], _∷_}
 use mathlib.Core.Logic.{_⊎_, inl, inr}
@@ -73,21 +73,23 @@ kind-most (Inter (Forward f)) = omega arith
 kind-most (Inter (Backward b)) = omega arith
 kind-most (Inter (Both f b)) = omega arith
 
--- A case, from its kind and its words 5 and 6.
-pub case-again : (c : Case) → CaseFits c → caseOf (motion (motionOf c .kind) (wordAt (vectorWords (motionOf c)) 0) (wordAt (vectorWords (motionOf c)) 1)) ≡ c
-unfolding caseOf motionOf vectorWords
-case-again Intra h = refl
-case-again (Inter (Forward f)) h = ap (λ (v : Vector). Inter (Forward v)) (vector-back f (h .0) (h .1))
-case-again (Inter (Backward b)) h = ap (λ (v : Vector). Inter (Backward v)) (vector-back b (h .0) (h .1))
-case-again (Inter (Both f b)) h = ap₂ (λ (v w : Vector). Inter (Both v w)) (vector-back f (h .0 .0) (h .0 .1)) (vector-back b (h .1 .0) (h .1 .1))
-
--- and from its kind and its own words, 0 for one that it has not
+-- A case, from its kind and its own words, 0 for one that it has not; and so from its kind and its words 5 and 6.
 pub case-back : (c : Case) → CaseFits c → caseOf (motionOf c) ≡ c
 unfolding caseOf motionOf
 case-back Intra h = refl
 case-back (Inter (Forward f)) h = ap (λ (v : Vector). Inter (Forward v)) (vector-back f (h .0) (h .1))
 case-back (Inter (Backward b)) h = ap (λ (v : Vector). Inter (Backward v)) (vector-back b (h .0) (h .1))
 case-back (Inter (Both f b)) h = ap₂ (λ (v w : Vector). Inter (Both v w)) (vector-back f (h .0 .0) (h .0 .1)) (vector-back b (h .1 .0) (h .1 .1))
+
+pub case-again : (c : Case) → CaseFits c → caseOf (motion (motionOf c .kind) (wordAt (vectorWords (motionOf c)) 0) (wordAt (vectorWords (motionOf c)) 1)) ≡ c
+unfolding caseOf motionOf vectorWords
+case-again c h = same c ∙ case-back c h
+  where
+    same : (d : Case) → caseOf (motion (motionOf d .kind) (wordAt (vectorWords (motionOf d)) 0) (wordAt (vectorWords (motionOf d)) 1)) ≡ caseOf (motionOf d)
+    same Intra = refl
+    same (Inter (Forward f)) = refl
+    same (Inter (Backward b)) = refl
+    same (Inter (Both f b)) = refl
 
 pub copies-again : (c : Case) → vectorWords (motion (motionOf c .kind) (wordAt (vectorWords (motionOf c)) 0) (wordAt (vectorWords (motionOf c)) 1)) ≡ vectorWords (motionOf c)
 unfolding motionOf vectorWords
@@ -135,16 +137,9 @@ type-back i t f b h p = by (isSet i) refl p
     by false e q = inter (omega (arith, eqb-false i 1 e)) (three (leb-true 1 t (and-left (leb 1 t) (leb t 3) q)) (leb-true t 3 (and-right (leb 1 t) (leb t 3) q)))
 
 -- The numbers of a case are words.
-pub forward-lt : (c : Case) → CaseFits c → motionOf c .forward < 2 ^ 32
+pub motion-lt : (c : Case) → CaseFits c → (motionOf c .forward < 2 ^ 32) × (motionOf c .backward < 2 ^ 32)
 unfolding motionOf
-forward-lt Intra h = omega arith
-forward-lt (Inter (Forward f)) h = word-lt f (h .0)
-forward-lt (Inter (Backward b)) h = omega arith
-forward-lt (Inter (Both f b)) h = word-lt f (h .0 .0)
-
-pub backward-lt : (c : Case) → CaseFits c → motionOf c .backward < 2 ^ 32
-unfolding motionOf
-backward-lt Intra h = omega arith
-backward-lt (Inter (Forward f)) h = omega arith
-backward-lt (Inter (Backward b)) h = word-lt b (h .0)
-backward-lt (Inter (Both f b)) h = word-lt b (h .1 .0)
+motion-lt Intra h = (omega arith, omega arith)
+motion-lt (Inter (Forward f)) h = (word-lt f (h .0), omega arith)
+motion-lt (Inter (Backward b)) h = (omega arith, word-lt b (h .0))
+motion-lt (Inter (Both f b)) h = (word-lt f (h .0 .0), word-lt b (h .1 .0))

@@ -2,7 +2,7 @@
 use mathlib.Core.Path.{_≡_, refl, sym, ap, ap₂, subst, _∙_}
 use mathlib.Core.Bool.{Bool, true, false, cond, _&&_}
 use mathlib.Core.List.{List, [], _∷_}
-use Prim.Native.Nat.{ℕ, zero, suc, _/_, _%_, _^_, _<_}
+use Prim.Native.Nat.{ℕ, zero, suc, _/_, _%_, _^_, _<_, _≤_}
 use native.Mathlib.Nat.{mod-lt, mod-eq-of-lt}
 use native.Mathlib.Omega.{arith}
 use borrow.Author.Tests.{eqb-true, eqb-false, leb-true, eq-eqb}
@@ -16,10 +16,11 @@ use Rattle.answers.specs.Answers.{Rule}
 use Rattle.command.specs.Cases.{motion, motionOf, caseOf, vectorWords}
 use Rattle.command.specs.Legal.{Words, Command, Legal}
 use Rattle.command.specs.Macroblocks.{wordAt, intraType, kindIn, typeOf, motionIn, flagsIn, macroblockOf, fields1, fields2, fields3, fields4, wordsOf}
-use Rattle.command.specs.Rules.{keptBy, zeroBits, typePermitted, fieldRules, vectorRules, copied, commandRules}
+use Rattle.command.specs.Rules.{keptBy, zeroBits, typePermitted, fixed1, fixed3, fixed4, fieldRules, vectorRules, copied, commandRules}
 use Rattle.command.specs.declared.Case.{Case}
 use Rattle.command.specs.declared.Case.the-variants.{Intra, Inter}
 use Rattle.command.specs.declared.Prediction.the-variants.{Forward, Backward, Both}
+use Rattle.command.specs.declared.Kept.{Kept}
 use Rattle.command.specs.declared.Macroblock.{Macroblock}
 use Rattle.command.proofs.CaseLaws.{and-left, and-right, vectors-four, vectors-listed, vectors-words, case-fits, vectors-again, case-again, copies-again, type-back}
 use Rattle.command.proofs.Congruence.{same-flags, same-macroblock}
@@ -43,6 +44,9 @@ permitted i t = cond (isSet i) (eqb t intraType) (leb 1 t && leb t 3)
 -- a run of bits that no field covers is zero
 clear-zero : (fs : List Field) (h l : ℕ) → T (clear fs h l) → valueIn fs h l ≡ 0 → zeroBits (packed fs) h l ≡ true
 clear-zero fs h l t e = eq-eqb _ 0 (packed-field fs h l t ∙ e)
+
+abbrev fieldsOf : ℕ → ℕ → ℕ → Kept → List Rule
+fieldsOf w1 w3 w4 kept = fieldRules (fixed1 w1) (typePermitted w1) (fixed3 w3) (fixed4 w4) kept
 
 abbrev copies : List ℕ → List Rule
 copies ws = vectorRules (copied ws 5 0) (copied ws 6 1) (copied ws 7 2) (copied ws 8 3)
@@ -110,7 +114,7 @@ module _ (m : Macroblock) where
       ap (λ (k : ℕ). vectorWords (motion k (wordAt (vectorWords (motionOf (m .case))) 0) (wordAt (vectorWords (motionOf (m .case))) 1))) kind-back
       ∙ copies-again (m .case)
 
-  hold-fields : Legal m → Hold (fieldRules (packed (first m)) (packed (fields3 m)) (packed (fields4 m)) (keptBy m))
+  hold-fields : Legal m → Hold (fieldsOf (packed (first m)) (packed (fields3 m)) (packed (fields4 m)) (keptBy m))
   unfolding fieldRules
   hold-fields l =
       let clear1 = clear-zero (first m) in
@@ -132,7 +136,7 @@ module _ (m : Macroblock) where
   pub words-kept : Legal m → Command (wordsOf m)
   unfolding wordsOf commandRules
   words-kept l =
-      let table : Macroblock → List Rule = λ n. fieldRules (packed (first m)) (packed (fields3 m)) (packed (fields4 m)) (keptBy n) in
+      let table : Macroblock → List Rule = λ n. fieldsOf (packed (first m)) (packed (fields3 m)) (packed (fields4 m)) (keptBy n) in
       let fields = subst (λ (n : Macroblock). Hold (table n)) (sym (macroblock-back l)) (hold-fields l) in
       let vectors = vectors-words (m .case) (l .case-fits) in
       record {
@@ -153,13 +157,18 @@ word-below (w ∷ ws) h (suc i) = word-below ws (h .1) i
 pub bits-lt : (w hi lo : ℕ) → bits w hi lo < 2 ^ width hi lo
 bits-lt w hi lo = mod-lt (w / 2 ^ lo) (pow-pos (width hi lo))
 
--- one bit, as a flag and back
-pub bit-back : (b : ℕ) → b < 2 → flag (isSet b) % 2 ≡ b
-bit-back b h = by (eqb b 1) refl
+-- one bit, as a flag and back, and in its field
+pub flag-again : (b : ℕ) → b ≤ 1 → flag (isSet b) ≡ b
+flag-again b h = by (eqb b 1) refl
   where
-    by : (x : Bool) → eqb b 1 ≡ x → flag x % 2 ≡ b
+    by : (x : Bool) → eqb b 1 ≡ x → flag x ≡ b
     by true e = sym (eqb-true b 1 e)
     by false e = omega (arith, eqb-false b 1 e)
+
+pub bit-again : (w i : ℕ) → T (eqb (width i i) 1) → flag (isSet (bits w i i)) % 2 ≡ bits w i i
+bit-again w i t =
+    let one = subst (λ (n : ℕ). bits w i i < 2 ^ n) (eqb→eq (width i i) 1 t) (bits-lt w i i) in
+    ap (λ (x : ℕ). x % 2) (flag-again (bits w i i) (omega arith)) ∙ mod-eq-of-lt one
 
 module _ (ws : List ℕ) (c : Command ws) where
   abbrev m : Macroblock
@@ -168,9 +177,9 @@ module _ (ws : List ℕ) (c : Command ws) where
   abbrev w : ℕ → ℕ
   w i = wordAt ws i
 
-  rules : Hold (fieldRules (w 1) (w 3) (w 4) (keptBy m)) × Hold (copies ws)
+  rules : Hold (fieldsOf (w 1) (w 3) (w 4) (keptBy m)) × Hold (copies ws)
   unfolding commandRules
-  rules = hold-each (fieldRules (w 1) (w 3) (w 4) (keptBy m)) (copies ws) (all-hold (commandRules ws) (c .kept))
+  rules = hold-each (fieldsOf (w 1) (w 3) (w 4) (keptBy m)) (copies ws) (all-hold (commandRules ws) (c .kept))
 
   -- A command's macroblock is legal.
   pub macroblock-legal : Legal (macroblockOf ws)
@@ -211,7 +220,7 @@ module _ (ws : List ℕ) (c : Command ws) where
       packed-is (first m) (w 1) (piece 1 0 ∷ piece 2 2 ∷ piece 7 3 ∷ piece 12 8 ∷ piece 13 13 ∷ piece 15 14 ∷ piece 31 16 ∷ []) (word-below ws (c .words) 1) tt (
         low .1,
         (
-          bit-back (bits (w 1) 2 2) (bits-lt (w 1) 2 2),
+          bit-again (w 1) 2 tt,
           (
             low .0,
             (
@@ -254,24 +263,23 @@ module _ (ws : List ℕ) (c : Command ws) where
   unfolding macroblockOf fieldRules
   word4-back =
       let low = both-none 4 29 28 23 5 (rules .0 .1 .1 .1 .1 .1 .0) in
-      let bit : (i : ℕ) → T (eqb (width i i) 1) → flag (isSet (bits (w 4) i i)) % 2 ≡ bits (w 4) i i = λ i t. bit-back (bits (w 4) i i) (subst (λ (n : ℕ). bits (w 4) i i < 2 ^ n) (eqb→eq (width i i) 1 t) (bits-lt (w 4) i i)) in
       packed-is (fields4 m) (w 4) (piece 4 0 ∷ piece 23 5 ∷ piece 24 24 ∷ piece 25 25 ∷ piece 26 26 ∷ piece 27 27 ∷ piece 29 28 ∷ piece 30 30 ∷ piece 31 31 ∷ []) (word-below ws (c .words) 4) tt (
         bits-cut (w 4) 4 0,
         (
           low .1,
           (
-            bit 24 tt,
+            bit-again (w 4) 24 tt,
             (
-              bit 25 tt,
+              bit-again (w 4) 25 tt,
               (
-                bit 26 tt,
+                bit-again (w 4) 26 tt,
                 (
-                  bit 27 tt,
+                  bit-again (w 4) 27 tt,
                   (
                     low .0,
                     (
-                      bit 30 tt,
-                      (bit 31 tt, tt),
+                      bit-again (w 4) 30 tt,
+                      (bit-again (w 4) 31 tt, tt),
                     ),
                   ),
                 ),

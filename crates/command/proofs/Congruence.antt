@@ -1,14 +1,13 @@
 -- Equal parts make equal wholes, for the proofs of the functions: over plain variables, so that each is checked once.
 use mathlib.Core.Path.{_≡_, ap, ap₂, _∙_}
 use mathlib.Core.Bool.{Bool, _&&_}
-use mathlib.Core.List.{List, [], _∷_}
+use mathlib.Core.List.{List}
 use Prim.Native.Nat.{ℕ}
 use lib.Dec.{eqb}
 use lib.ListN.{getD}
 use Rattle.command.specs.Cases.{vectorWords}
 use Rattle.command.specs.Macroblocks.{wordAt, motionIn, assembled}
-use Rattle.command.specs.Rules.{vectorRules, copied}
-use Rattle.answers.specs.Answers.{Rule, rule}
+use Rattle.command.specs.Rules.{fieldRules, vectorRules, copied}
 use Rattle.command.specs.declared.Case.{Case}
 use Rattle.command.specs.declared.Flags.{Flags}
 use Rattle.command.specs.declared.Macroblock.{Macroblock}
@@ -41,17 +40,5 @@ copied-by ws i j ew ev = ap₂ (λ (x : ℕ) (xs : List ℕ). eqb x (getD xs j 0
 pub same-both : {a b a′ b′ : Bool} → a ≡ a′ → b ≡ b′ → (a && b) ≡ (a′ && b′)
 same-both ea eb = ap₂ _&&_ ea eb
 
--- the field rules, from the four tests that read words
-abbrev pub seven : Kept → Bool → Bool → Bool → Bool → List Rule
-seven k fixed1 typed fixed3 fixed4 =
-    rule 4 1 fixed1
-    ∷ rule 5 1 typed
-    ∷ rule 11 1 (k .«skip_inside_slice» && k .«skip_pattern»)
-    ∷ rule 4 3 fixed3
-    ∷ rule 5 3 (k .«intra_pattern»)
-    ∷ rule 4 4 fixed4
-    ∷ rule 5 4 (k .quantiser)
-    ∷ []
-
-pub same-seven : (k : Kept) {a b c d a′ b′ c′ d′ : Bool} → a ≡ a′ → b ≡ b′ → c ≡ c′ → d ≡ d′ → seven k a b c d ≡ seven k a′ b′ c′ d′
-same-seven k {a} {b} {c} {d} {a′} {b′} {c′} {d′} ea eb ec ed = ap₂ (λ (x y : Bool). seven k x y c d) ea eb ∙ ap₂ (seven k a′ b′) ec ed
+pub same-fields : (k : Kept) {a b c d a′ b′ c′ d′ : Bool} → a ≡ a′ → b ≡ b′ → c ≡ c′ → d ≡ d′ → fieldRules a b c d k ≡ fieldRules a′ b′ c′ d′ k
+same-fields k {a} {b} {c} {d} {a′} {b′} {c′} {d′} ea eb ec ed = ap₂ (λ (x y : Bool). fieldRules x y c d k) ea eb ∙ ap₂ (λ (x y : Bool). fieldRules a′ b′ x y k) ec ed

@@ -30,14 +30,14 @@ pub record Command (ws : List ℕ) : Type 0 where
   pub kept : judged (commandRules ws) ≡ Accepted
 
 -- The vectors fit their halves of a word.
-abbrev pub Fits : Vector → Type 0
-Fits v = SFits w16 (v .x) × SFits w16 (v .y)
+abbrev pub VectorFits : Vector → Type 0
+VectorFits v = SFits w16 (v .x) × SFits w16 (v .y)
 
 abbrev pub CaseFits : Case → Type 0
 CaseFits Intra = Unit {0}
-CaseFits (Inter (Forward f)) = Fits f
-CaseFits (Inter (Backward b)) = Fits b
-CaseFits (Inter (Both f b)) = Fits f × Fits b
+CaseFits (Inter (Forward f)) = VectorFits f
+CaseFits (Inter (Backward b)) = VectorFits b
+CaseFits (Inter (Both f b)) = VectorFits f × VectorFits b
 
 -- Each field fits its bits, and the rules of the macroblock itself hold.
 pub record Legal (m : Macroblock) : Type 0 where

@@ -37,19 +37,26 @@ zeroBits word hi lo = eqb (bits word hi lo) 0
 abbrev pub typePermitted : ℕ → Bool
 typePermitted w = cond (isSet (bits w 13 13)) (eqb (bits w 12 8) intraType) (leb 1 (bits w 12 8) && leb (bits w 12 8) 3)
 
+-- The bits of words 1, 3 and 4 that have one value: "15, 14, 7:3 zero .. 1:0 zero"; "15:12 zero .. 5:0 zero"; "all else zero".
+abbrev pub fixed1 : ℕ → Bool
+fixed1 w = zeroBits w 15 14 && (zeroBits w 7 3 && zeroBits w 1 0)
+
+abbrev pub fixed3 : ℕ → Bool
+fixed3 w = zeroBits w 15 12 && zeroBits w 5 0
+
+abbrev pub fixed4 : ℕ → Bool
+fixed4 w = zeroBits w 29 28 && zeroBits w 23 5
+
 -- The tables: number, word, and whether the rule holds. "A word's bits that must always have one value give 4; any other rule
 -- of a word list without a number of its own gives 5, skip on an intra macroblock .. included." "11 skip rule: word 1".
-unfoldable pub fieldRules : ℕ → ℕ → ℕ → Kept → List Rule
-fieldRules w1 w3 w4 kept =
-    -- word 1: "15, 14, 7:3 zero .. 1:0 zero"
-    rule 4 1 (zeroBits w1 15 14 && (zeroBits w1 7 3 && zeroBits w1 1 0))
-    ∷ rule 5 1 (typePermitted w1 && kept .«intra_not_skipped»)
+unfoldable pub fieldRules : Bool → Bool → Bool → Bool → Kept → List Rule
+fieldRules bits1 typed bits3 bits4 kept =
+    rule 4 1 bits1
+    ∷ rule 5 1 (typed && kept .«intra_not_skipped»)
     ∷ rule 11 1 (kept .«skip_inside_slice» && kept .«skip_pattern»)
-    -- word 3: "15:12 zero, pattern 11:6, 5:0 zero"
-    ∷ rule 4 3 (zeroBits w3 15 12 && zeroBits w3 5 0)
+    ∷ rule 4 3 bits3
     ∷ rule 5 3 (kept .«intra_pattern»)
-    -- word 4: "all else zero"
-    ∷ rule 4 4 (zeroBits w4 29 28 && zeroBits w4 23 5)
+    ∷ rule 4 4 bits4
     ∷ rule 5 4 (kept .quantiser)
     ∷ []
 
@@ -57,6 +64,7 @@ fieldRules w1 w3 w4 kept =
 unfoldable pub vectorRules : Bool → Bool → Bool → Bool → List Rule
 vectorRules five six seven eight = rule 8 5 five ∷ rule 8 6 six ∷ rule 8 7 seven ∷ rule 8 8 eight ∷ []
 
+-- Word i of a command is what stands in the j-th of its words 5 to 8, j from 0.
 abbrev pub copied : List ℕ → ℕ → ℕ → Bool
 copied ws i j = eqb (wordAt ws i) (wordAt (vectorWords (motionIn ws)) j)
 
@@ -64,5 +72,5 @@ copied ws i j = eqb (wordAt ws i) (wordAt (vectorWords (motionIn ws)) j)
 -- tables beside these; `judged` takes them in the order of their words and numbers.
 unfoldable pub commandRules : List ℕ → List Rule
 commandRules ws =
-    fieldRules (wordAt ws 1) (wordAt ws 3) (wordAt ws 4) (keptBy (macroblockOf ws))
+    fieldRules (fixed1 (wordAt ws 1)) (typePermitted (wordAt ws 1)) (fixed3 (wordAt ws 3)) (fixed4 (wordAt ws 4)) (keptBy (macroblockOf ws))
     ++ vectorRules (copied ws 5 0) (copied ws 6 1) (copied ws 7 2) (copied ws 8 3)

@@ -14,6 +14,9 @@ pub use rules::fault_of;
 pub use rules::kept_by;
 pub use writing::words_of;
 
+// The word that begins a MACROBLOCK command.
+pub const MACROBLOCK_HEADER: u32 = 0x7349_0007;
+
 // The commands that have rules of their own.
 pub enum Opcode {
     Noop,

@@ -7,7 +7,7 @@ use crate::writing;
 use answers::Answer;
 ghost use mathlib.Core.Path.{_≡_};
 ghost use Rattle.answers.specs.Answers.{judged};
-ghost use Rattle.command.specs.Rules.{keptBy, zeroBits, typePermitted, fieldRules, vectorRules, copied, commandRules};
+ghost use Rattle.command.specs.Rules.{keptBy, zeroBits, typePermitted, fixed1, fixed3, fixed4, fieldRules, vectorRules, copied, commandRules};
 
 // Which rules of the macroblock itself hold.
 pub fn kept_by(macroblock: Macroblock) -> Kept
@@ -45,16 +45,13 @@ fn type_permitted(word: u32) -> bool
     (1 <= kind) & (kind <= 3)
 }
 
-// Words 1, 3 and 4.
-fn field_fault(one: u32, three: u32, four: u32, kept: Kept) -> Answer
-    ensures { λ r. ⌜ r ≡ judged (fieldRules one three four kept) ⌝ }
+// Words 1, 3 and 4, from whether each is as it should be.
+fn field_fault(bits1: bool, typed: bool, bits3: bool, bits4: bool, kept: Kept) -> Answer
+    ensures { λ r. ⌜ r ≡ judged (fieldRules bits1 typed bits3 bits4 kept) ⌝ }
 {
-    let fixed1 = zero_bits(one, 15, 14) & (zero_bits(one, 7, 3) & zero_bits(one, 1, 0));
-    let fixed3 = zero_bits(three, 15, 12) & zero_bits(three, 5, 0);
-    let fixed4 = zero_bits(four, 29, 28) & zero_bits(four, 23, 5);
-    let permitted = type_permitted(one) & kept.intra_not_skipped;
+    let permitted = typed & kept.intra_not_skipped;
     let skip = kept.skip_inside_slice & kept.skip_pattern;
-    if !fixed1 {
+    if !bits1 {
         return Answer::Refused(4, 1);
     }
     if !permitted {
@@ -63,19 +60,29 @@ fn field_fault(one: u32, three: u32, four: u32, kept: Kept) -> Answer
     if !skip {
         return Answer::Refused(11, 1);
     }
-    if !fixed3 {
+    if !bits3 {
         return Answer::Refused(4, 3);
     }
     if !kept.intra_pattern {
         return Answer::Refused(5, 3);
     }
-    if !fixed4 {
+    if !bits4 {
         return Answer::Refused(4, 4);
     }
     if !kept.quantiser {
         return Answer::Refused(5, 4);
     }
     Answer::Accepted
+}
+
+// Whether words 1, 3 and 4 have what they may have.
+fn words_fault(one: u32, three: u32, four: u32, kept: Kept) -> Answer
+    ensures { λ r. ⌜ r ≡ judged (fieldRules (fixed1 one) (typePermitted one) (fixed3 three) (fixed4 four) kept) ⌝ }
+{
+    let bits1 = zero_bits(one, 15, 14) & (zero_bits(one, 7, 3) & zero_bits(one, 1, 0));
+    let bits3 = zero_bits(three, 15, 12) & zero_bits(three, 5, 0);
+    let bits4 = zero_bits(four, 29, 28) & zero_bits(four, 23, 5);
+    field_fault(bits1, type_permitted(one), bits3, bits4, kept)
 }
 
 // Words 5 to 8, from whether each is as it should be.
@@ -117,6 +124,6 @@ pub fn fault_of(words: &[u32]) -> Answer
     let one = reading::word_at(words, 1);
     let three = reading::word_at(words, 3);
     let four = reading::word_at(words, 4);
-    let fields = field_fault(one, three, four, kept);
+    let fields = words_fault(one, three, four, kept);
     answers::earlier(fields, copies_fault(words))
 }

@@ -1,4 +1,5 @@
 // Writing the words of a MACROBLOCK command.
+use crate::MACROBLOCK_HEADER;
 use crate::Macroblock;
 use crate::Motion;
 use crate::cases;
@@ -84,7 +85,7 @@ pub fn words_of(macroblock: Macroblock) -> [u32; 9]
     let vectors = vector_words(motion);
     let word1 = word1_of(macroblock.upper, motion.kind, macroblock.skip);
     [
-        0x7349_0007,
+        MACROBLOCK_HEADER,
         word1,
         word2_of(macroblock),
         word3_of(macroblock),

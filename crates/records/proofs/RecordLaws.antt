@@ -2,13 +2,13 @@
 use mathlib.Core.Path.{_≡_, refl, sym, ap, ap₂, subst, _∙_}
 use mathlib.Core.Bool.{Bool, true, false, cond, _&&_}
 use mathlib.Core.List.{List, [], _∷_, _++_}
-use Prim.Native.Nat.{ℕ, zero, suc, _+_, _*_, _%_, _^_, _<_, _≤_}
+use Prim.Native.Nat.{ℕ, zero, suc, _+_, _*_, _^_, _<_, _≤_}
 use native.Mathlib.Nat.{pow-suc}
 use native.Mathlib.Omega.{arith}
 use borrow.Author.Tests.{eqb-true, eqb-false, eq-eqb, leb-true, le-leb}
-use lib.Dec.{T, eqb, leb, eqb→eq}
+use lib.Dec.{T, eqb, leb}
 use lib.ListN.{length, getD}
-use Rattle.fields.specs.Word.{width, bits, isSet, flag, packed}
+use Rattle.fields.specs.Word.{isSet, flag, packed}
 use Rattle.fields.specs.Bytes.{bytesOf, numberOf, elements}
 use Rattle.fields.proofs.Elements.{elements-all}
 use Rattle.fields.proofs.LittleEndian.{Bytes, bytes-back, number-back}
@@ -28,14 +28,14 @@ use Rattle.command.specs.declared.Flags.{Flags}
 use Rattle.command.specs.declared.Kept.{Kept}
 use Rattle.command.specs.declared.Macroblock.{Macroblock}
 use Rattle.command.specs.declared.Motion.{Motion}
-use Rattle.command.proofs.CaseLaws.{and-left, and-right, kind-most, case-fits, case-back, forward-lt, backward-lt}
-use Rattle.command.proofs.CommandLaws.{flag-back, bit-back, bits-lt, both-true, quantiser-lt}
+use Rattle.command.proofs.CaseLaws.{and-left, and-right, kind-most, case-fits, case-back, motion-lt}
+use Rattle.command.proofs.CommandLaws.{flag-back, flag-again, bit-again, both-true, quantiser-lt}
 use Rattle.command.proofs.Congruence.{same-flags, same-macroblock}
 use Rattle.records.specs.Layout.{Part, columnPart, rowPart, upperPart, kindPart, skipPart, patternPart, maxSizePart, targetSizePart, quantiserPart, flagsPart, fillerPart, forwardPart, backwardPart}
 use Rattle.records.specs.Records.{flagFields, flagsOf, valueAt, motionIn, recordOf, macroblockIn}
 use Rattle.records.specs.RecordRules.{hasForward, hasBackward, zeroBytes, unused, byteRules, zeroRules, recordRules}
 use Rattle.records.proofs.FlagsByte.{flags-lt, flags-fit}
-use Rattle.records.proofs.Spelling.{bytesBy, flag-fits, spelled}
+use Rattle.records.proofs.Spelling.{bytesBy, flag-most, flag-fits, spelled}
 
 flags-back : (f : Flags) → flagsOf (packed (flagFields f)) ≡ f
 flags-back f =
@@ -64,8 +64,8 @@ module _ (m : Macroblock) (l : Legal m) where
   unfolding recordOf
   motion-at =
       let k = kind-at in
-      let f = number-back 4 (motionOf (m .case) .forward) (forward-lt (m .case) (l .case-fits)) in
-      let b = number-back 4 (motionOf (m .case) .backward) (backward-lt (m .case) (l .case-fits)) in
+      let f = number-back 4 (motionOf (m .case) .forward) (motion-lt (m .case) (l .case-fits) .0) in
+      let b = number-back 4 (motionOf (m .case) .backward) (motion-lt (m .case) (l .case-fits) .1) in
       same-motion k f b
 
   -- A legal macroblock comes back from its record.
@@ -112,29 +112,18 @@ hold-unused true p bs h e = absurd (subst T e tt)
 hold-unused false p bs h e = hold-zeros bs (p .first) (p .count) h
 
 -- a vector that a case has not is 0
-no-forward : (c : Case) → hasForward (motionOf c .kind) ≡ false → motionOf c .forward ≡ 0
+absent-zero : (c : Case) → (hasForward (motionOf c .kind) ≡ false → motionOf c .forward ≡ 0) × (hasBackward (motionOf c .kind) ≡ false → motionOf c .backward ≡ 0)
 unfolding motionOf
-no-forward Intra e = refl
-no-forward (Inter (Forward f)) e = absurd (subst T e tt)
-no-forward (Inter (Backward b)) e = refl
-no-forward (Inter (Both f b)) e = absurd (subst T e tt)
-
-no-backward : (c : Case) → hasBackward (motionOf c .kind) ≡ false → motionOf c .backward ≡ 0
-unfolding motionOf
-no-backward Intra e = refl
-no-backward (Inter (Forward f)) e = refl
-no-backward (Inter (Backward b)) e = absurd (subst T e tt)
-no-backward (Inter (Both f b)) e = absurd (subst T e tt)
+absent-zero Intra = (λ e. refl, λ e. refl)
+absent-zero (Inter (Forward f)) = (λ e. absurd (subst T e tt), λ e. refl)
+absent-zero (Inter (Backward b)) = (λ e. refl, λ e. absurd (subst T e tt))
+absent-zero (Inter (Both f b)) = (λ e. absurd (subst T e tt), λ e. absurd (subst T e tt))
 
 at-most : {v n k : ℕ} → v ≡ n → n ≤ k → leb v k ≡ true
 at-most {v} {n} {k} e h = le-leb v k (subst (λ (x : ℕ). x ≤ k) (sym e) h)
 
 lt-most : {n : ℕ} → n < 64 → n ≤ 63
 lt-most h = omega arith
-
-flag-most : (b : Bool) → flag b ≤ 1
-flag-most true = omega arith
-flag-most false = omega arith
 
 module _ (m : Macroblock) (l : Legal m) where
   zeros-kept : Hold (zeroRules (recordOf m) (valueAt kindPart (recordOf m)))
@@ -146,8 +135,8 @@ module _ (m : Macroblock) (l : Legal m) where
       hold-both (unused false fillerPart bs) (unused (hasForward k) forwardPart bs ++ unused (hasBackward k) backwardPart bs)
       (unused-hold false fillerPart bs (λ e. refl))
       (hold-both (unused (hasForward k) forwardPart bs) (unused (hasBackward k) backwardPart bs)
-      (unused-hold (hasForward k) forwardPart bs (λ e. ap (bytesOf 4) (no-forward (m .case) (absent hasForward e))))
-      (unused-hold (hasBackward k) backwardPart bs (λ e. ap (bytesOf 4) (no-backward (m .case) (absent hasBackward e)))))
+      (unused-hold (hasForward k) forwardPart bs (λ e. ap (bytesOf 4) (absent-zero (m .case) .0 (absent hasForward e))))
+      (unused-hold (hasBackward k) backwardPart bs (λ e. ap (bytesOf 4) (absent-zero (m .case) .1 (absent hasBackward e)))))
 
   fields-kept : Hold (byteRules (recordOf m) (keptBy m))
   unfolding byteRules recordOf
@@ -228,10 +217,8 @@ motion-again mo hk hf hb nf nb = by (eqb (mo .kind) 1) (eqb (mo .kind) 2) (eqb (
 -- a byte of six flags, and back
 flags-again : (b : ℕ) → b < 64 → packed (flagFields (flagsOf b)) ≡ b
 flags-again b h =
-    let bit : (i : ℕ) → T (eqb (width i i) 1) → flag (isSet (bits b i i)) % 2 ≡ bits b i i =
-    λ i t. bit-back (bits b i i) (subst (λ (n : ℕ). bits b i i < 2 ^ n) (eqb→eq (width i i) 1 t) (bits-lt b i i)) in
     packed-is (flagFields (flagsOf b)) b (piece 0 0 ∷ piece 1 1 ∷ piece 2 2 ∷ piece 3 3 ∷ piece 4 4 ∷ piece 5 5 ∷ piece 31 6 ∷ []) (omega arith) tt
-    (bit 0 tt, (bit 1 tt, (bit 2 tt, (bit 3 tt, (bit 4 tt, (bit 5 tt, (omega arith, tt)))))))
+    (bit-again b 0 tt, (bit-again b 1 tt, (bit-again b 2 tt, (bit-again b 3 tt, (bit-again b 4 tt, (bit-again b 5 tt, (omega arith, tt)))))))
 
 -- ten single bytes of a record, the others as they are
 same-bytes : {b0 b1 b2 b3 b4 b5 b16 b17 b18 b19 b20 b21 b22 b23 k s p x t q f z y w k′ s′ p′ x′ t′ q′ f′ z′ y′ w′ : ℕ}
@@ -249,13 +236,6 @@ same-bytes : {b0 b1 b2 b3 b4 b5 b16 b17 b18 b19 b20 b21 b22 b23 k s p x t q f z 
     (b0 ∷ b1 ∷ b2 ∷ b3 ∷ b4 ∷ b5 ∷ k ∷ s ∷ p ∷ x ∷ t ∷ q ∷ f ∷ z ∷ y ∷ w ∷ b16 ∷ b17 ∷ b18 ∷ b19 ∷ b20 ∷ b21 ∷ b22 ∷ b23 ∷ [])
     (b0 ∷ b1 ∷ b2 ∷ b3 ∷ b4 ∷ b5 ∷ k′ ∷ s′ ∷ p′ ∷ x′ ∷ t′ ∷ q′ ∷ f′ ∷ z′ ∷ y′ ∷ w′ ∷ b16 ∷ b17 ∷ b18 ∷ b19 ∷ b20 ∷ b21 ∷ b22 ∷ b23 ∷ [])
 same-bytes ek es ep ex et eq ef ez ey ew = cc
-
-flag-again : (b : ℕ) → b ≤ 1 → flag (isSet b) ≡ b
-flag-again b h = by (eqb b 1) refl
-  where
-    by : (x : Bool) → eqb b 1 ≡ x → flag x ≡ b
-    by true e = sym (eqb-true b 1 e)
-    by false e = omega (arith, eqb-false b 1 e)
 
 module _ (bs : List ℕ) (n : length bs ≡ 24) (h : Bytes bs) (k : judged (recordRules bs) ≡ Accepted) where
   abbrev kept : Kept

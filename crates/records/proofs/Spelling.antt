@@ -2,7 +2,7 @@
 use mathlib.Core.Path.{_≡_, refl, sym, _∙_}
 use mathlib.Core.Bool.{Bool, true, false}
 use mathlib.Core.List.{List, [], _∷_}
-use Prim.Native.Nat.{ℕ, _%_, _<_}
+use Prim.Native.Nat.{ℕ, _%_, _<_, _≤_}
 use native.Mathlib.Nat.{mod-eq-of-lt}
 use native.Mathlib.Omega.{arith}
 use lib.ListN.{getD}
@@ -30,9 +30,12 @@ flag-byte : (b : Bool) → flag b ≡ flag b % 256
 flag-byte true = refl
 flag-byte false = refl
 
+pub flag-most : (b : Bool) → flag b ≤ 1
+flag-most true = omega arith
+flag-most false = omega arith
+
 pub flag-fits : (b : Bool) → flag b < 256
-flag-fits true = omega arith
-flag-fits false = omega arith
+flag-fits b = let most = flag-most b in omega arith
 
 byte : {n : ℕ} → n < 256 → n ≡ n % 256
 byte h = sym (mod-eq-of-lt h)

@@ -1,7 +1,7 @@
 use denote.Ref.{now}
 use Rattle.answers.proofs.Judging.{judged-append}
 use Rattle.command.specs.Macroblocks.{wordAt, macroblockOf}
-use Rattle.command.specs.Rules.{keptBy, fieldRules, vectorRules, copied, commandRules}
+use Rattle.command.specs.Rules.{keptBy, typePermitted, fixed1, fixed3, fixed4, fieldRules, vectorRules, copied, commandRules}
 use borrow.Author.Needs.{needs}
 use Rattle.command.proofs.rules.fault_of.Statement.{statement}
 use Rattle.command.proofs.rules.fault_of.Tie as tie
@@ -21,8 +21,8 @@ word-at-requires-2 c κs = search needs
 word-at-requires-3 : tie.Need-word-at-requires-3
 word-at-requires-3 c κs = search needs
 
-field-fault-requires : tie.Need-field-fault-requires
-field-fault-requires c κs = search needs
+words-fault-requires : tie.Need-words-fault-requires
+words-fault-requires c κs = search needs
 
 copies-fault-requires : tie.Need-copies-fault-requires
 copies-fault-requires c κs = search needs
@@ -34,7 +34,8 @@ returns : tie.Need-returns
 unfolding commandRules
 returns c =
     let ws = now (c .before .before .before .before .before .before .before .before .before .args .words) in
-    let both = judged-append (fieldRules (wordAt ws 1) (wordAt ws 3) (wordAt ws 4) (keptBy (macroblockOf ws))) (vectorRules (copied ws 5 0) (copied ws 6 1) (copied ws 7 2) (copied ws 8 3)) in
+    let fields = fieldRules (fixed1 (wordAt ws 1)) (typePermitted (wordAt ws 1)) (fixed3 (wordAt ws 3)) (fixed4 (wordAt ws 4)) (keptBy (macroblockOf ws)) in
+    let both = judged-append fields (vectorRules (copied ws 5 0) (copied ws 6 1) (copied ws 7 2) (copied ws 8 3)) in
     cc
 
 pub fault-of-spec : {M : Type 1} → statement M
@@ -46,7 +47,7 @@ fault-of-spec =
     word-at-requires
     word-at-requires-2
     word-at-requires-3
-    field-fault-requires
+    words-fault-requires
     copies-fault-requires
     earlier-requires
     returns)
