@@ -5,7 +5,7 @@ use mathlib.Core.List.{List, [], _∷_, _++_}
 use Prim.Native.Nat.{ℕ, _<_, _≤_}
 use native.Mathlib.Omega.{arith}
 use borrow.Author.Tests.{not-true, not-false, ltb-true, ltb-false, lt-ltb, le-ltb, eqb-true, eqb-false, eq-eqb, ne-eqb}
-use lib.Dec.{T, eqb, ltb}
+use lib.Dec.{T, eqb, leb, ltb, leb→le}
 use Rattle.answers.specs.Answers.{Rule, earlier, answerBy, judged}
 use Rattle.answers.specs.declared.Answer.{Answer}
 use Rattle.answers.specs.declared.Answer.the-variants.{Accepted, Refused}
@@ -209,3 +209,39 @@ hold-both (r ∷ rs) ss h k = (h .0, hold-both rs ss (h .1) k)
 pub hold-each : (rs ss : List Rule) → Hold (rs ++ ss) → Hold rs × Hold ss
 hold-each [] ss h = (tt, h)
 hold-each (r ∷ rs) ss h = let k = hold-each rs ss (h .1) in ((h .0, k .0), k .1)
+
+-- A table whose rules have places up to n refuses at one of them.
+abbrev pub within : ℕ → List Rule → Bool
+within n [] = true
+within n (r ∷ rs) = leb (r .place) n && within n rs
+
+abbrev Within : ℕ → Answer → Type 0
+Within n Accepted = Unit {0}
+Within n (Refused m p) = p ≤ n
+
+within-either : (n : ℕ) (t : Bool) (a b : Answer) → Within n a → Within n b → Within n (cond t a b)
+within-either n true a b x y = x
+within-either n false a b x y = y
+
+within-earlier : (n : ℕ) (a b : Answer) → Within n a → Within n b → Within n (earlier a b)
+within-earlier n Accepted b x y = y
+within-earlier n (Refused m p) Accepted x y = x
+within-earlier n (Refused m p) (Refused k q) x y = within-either n (before k q m p) (Refused k q) (Refused m p) y x
+
+within-judged : (n : ℕ) (rs : List Rule) → T (within n rs) → Within n (judged rs)
+within-judged n [] t = tt
+within-judged n (r ∷ rs) t =
+    let h = both (leb (r .place) n) (within n rs) t in
+    within-earlier n (answerBy r) (judged rs)
+    (within-either n (r .holds) Accepted (Refused (r .number) (r .place)) tt (leb→le (r .place) n (h .0))) (within-judged n rs (h .1))
+
+pub judged-within : (n : ℕ) (rs : List Rule) {m p : ℕ} → T (within n rs) → judged rs ≡ Refused m p → p ≤ n
+judged-within n rs t e = subst (Within n) e (within-judged n rs t)
+
+pub within-both : (n : ℕ) (rs ss : List Rule) → T (within n rs) → T (within n ss) → T (within n (rs ++ ss))
+within-both n [] ss t u = u
+within-both n (r ∷ rs) ss t u = let h = both (leb (r .place) n) (within n rs) t in together (leb (r .place) n) (within n (rs ++ ss)) (h .0) (within-both n rs ss (h .1) u)
+  where
+    together : (a b : Bool) → T a → T b → T (a && b)
+    together true b t u = u
+    together false b t u = absurd t

@@ -24,7 +24,7 @@ use Rattle.command.specs.declared.Kept.{Kept}
 use Rattle.command.specs.declared.Macroblock.{Macroblock}
 use Rattle.command.proofs.CaseLaws.{and-left, and-right, vectors-four, vectors-listed, vectors-words, case-fits, vectors-again, case-again, copies-again, type-back}
 use Rattle.command.proofs.Congruence.{same-flags, same-macroblock}
-use Rattle.answers.proofs.Judging.{Hold, all-hold, none-broken, hold-both, hold-each}
+use Rattle.answers.proofs.Judging.{Hold, all-hold, none-broken, hold-both, hold-each, within}
 
 -- a flag in its bit
 pub flag-back : (b : Bool) → isSet (flag b % 2) ≡ b
@@ -309,3 +309,8 @@ module _ (ws : List ℕ) (c : Command ws) where
       let ev = vectors-back in
       let listed : wordsOf (macroblockOf ws) ≡ elements ws 0 9 = cc in
       listed ∙ elements-all ws 9 (c .nine)
+
+-- The rules of a command alone refuse at its words 1 to 8.
+pub command-within : (ws : List ℕ) → T (within 8 (commandRules ws))
+unfolding commandRules fieldRules vectorRules
+command-within ws = tt

@@ -41,3 +41,9 @@ lookUp (r ∷ rs) w = cond (eqb w (r .header)) (r .begins) (lookUp rs w)
 
 unfoldable pub headerOf : ℕ → Header
 headerOf w = lookUp table w
+
+-- The count of words of the command that a header begins, 0 for none.
+abbrev pub wordsIn : Header → ℕ
+wordsIn (Known o n) = n
+wordsIn (Carried n) = n
+wordsIn Unknown = 0

@@ -10,6 +10,7 @@ pub use cases::motion_of;
 pub use headers::read_header;
 use prediction::Vector;
 pub use reading::macroblock_of;
+pub use reading::word_at;
 pub use rules::fault_of;
 pub use rules::kept_by;
 pub use writing::words_of;

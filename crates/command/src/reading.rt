@@ -8,7 +8,7 @@ ghost use mathlib.Core.Path.{_≡_};
 ghost use Rattle.command.specs.Macroblocks.{wordAt, kindIn, flagsIn, motionIn, assembled, macroblockOf};
 
 // A word of a command, 0 where there is none.
-pub(crate) fn word_at(words: &[u32], i: usize) -> u32
+pub fn word_at(words: &[u32], i: usize) -> u32
     ensures { λ r. ⌜ r ≡ wordAt (now (words .entry)) i ⌝ }
 {
     if i < words.len() { words[i] } else { 0 }

@@ -31,6 +31,8 @@ pub type Command = [u32; 9];
 pub type Record = [u8; 24];
 /// Number and place.
 pub type Answer = (u8, usize);
+/// A word of a command, the number of a rule that stands there, and whether it is kept.
+pub type Rule = (usize, u8, bool);
 
 /// Bits hi:lo of a word of the command.
 #[derive(Clone, Copy)]
@@ -80,7 +82,7 @@ const ZERO_3: [Field; 2] = [field(3, 15, 12), field(3, 5, 0)];
 const ZERO_4: [Field; 2] = [field(4, 29, 28), field(4, 23, 5)];
 
 /// "Intra: type 1Ah", "Inter: 1 forward, 2 backward, 3 both", as the record's kind.
-fn kind(c: &Command) -> Option<u8> {
+pub fn kind(c: &Command) -> Option<u8> {
     match (INTRA.of(c), TYPE.of(c)) {
         (1, 0x1a) => Some(0),
         (0, inter @ 1..=3) => Some(inter as u8),
@@ -100,8 +102,8 @@ fn vectors_due(c: &Command) -> [u32; 4] {
     }
 }
 
-/// Place and number of every rule that a command read alone keeps past its header, and whether this one keeps it.
-fn rules(c: &Command) -> [(usize, u8, bool); 13] {
+/// Every rule that a command read alone keeps past its header.
+pub fn rules(c: &Command) -> [Rule; 13] {
     let zero = |fields: &[Field]| fields.iter().all(|f| f.of(c) == 0);
     let (intra, skip, pattern) = (INTRA.of(c) == 1, SKIP.of(c) == 1, PATTERN.of(c));
     let due = vectors_due(c);
@@ -152,15 +154,20 @@ fn record(c: &Command) -> Option<Record> {
     Some(r)
 }
 
+/// "Words upwards, and in a word the smaller number first": the least place and number of all the rules not kept.
+pub fn first_broken(rules: &[Rule]) -> Option<Answer> {
+    let broken = rules.iter().filter(|rule| !rule.2).map(|&(place, number, _)| (place, number)).min();
+    broken.map(|(place, number)| (number, place))
+}
+
 /// The record that one command read alone gives, or the refusal. "An empty run gets 1 at 0, any header but MACROBLOCK's
-/// gets 2, and words after the ninth aren't read"; "2, then 1, [...] then words upwards, and in a word the smaller number
-/// first", which is the least place and number of all the rules not kept.
+/// gets 2, and words after the ninth aren't read"; "2, then 1", then the rules of the words.
 pub fn record_of(words: &[u32]) -> Result<Record, Answer> {
     let first = *words.first().ok_or((1, 0))?;
     let Some(("MACROBLOCK", count)) = header(first) else { return Err((2, 0)) };
     let c: &Command = words.get(..count).ok_or((1, words.len()))?.try_into().unwrap();
-    match rules(c).into_iter().filter(|rule| !rule.2).map(|(place, number, _)| (place, number)).min() {
-        Some((place, number)) => Err((number, place)),
+    match first_broken(&rules(c)) {
+        Some(refusal) => Err(refusal),
         None => Ok(record(c).unwrap()),
     }
 }

@@ -9,7 +9,7 @@ use crate::random::Random;
 pub const P1: Command = [0x7349_0007, 0x0000_3a00, 0, 0xfc0, 0xc500_0001, 0, 0, 0, 0];
 
 /// The kind is the record's. Quantiser 1, pattern 63 if intra, the vectors that the kind has, and zero in the rest.
-fn plain(kind: u32, forward: u32, backward: u32) -> Command {
+pub fn plain(kind: u32, forward: u32, backward: u32) -> Command {
     let mut c = [MACROBLOCK, 0, 0, 0, 1, 0, 0, 0, 0];
     if kind == 0 {
         INTRA.set(&mut c, 1);

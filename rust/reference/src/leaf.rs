@@ -23,18 +23,19 @@ pub fn with_bits(word: u32, hi: u8, lo: u8, value: u32) -> u32 {
     out
 }
 
-struct Block {
-    pitch: u32,
-    chroma_row: u16,
-    columns: u16,
-    rows: u16,
-    column: u16,
-    row: u16,
-    x_code: u8,
-    y_code: u8,
-    word: u32,
+/// The samples that one vector's word names for the macroblock at a place of a picture.
+pub struct Block {
+    pub pitch: u32,
+    pub chroma_row: u16,
+    pub columns: u16,
+    pub rows: u16,
+    pub column: u16,
+    pub row: u16,
+    pub x_code: u8,
+    pub y_code: u8,
+    pub word: u32,
     /// The number of document 01's case, or 0.
-    case: u8,
+    pub case: u8,
 }
 
 impl Block {
@@ -45,7 +46,7 @@ impl Block {
     }
 
     /// "With f code c a component lies from −16·2^(c−1) to 16·2^(c−1)−1."
-    fn in_range(&self) -> bool {
+    pub fn in_range(&self) -> bool {
         let holds = |code: u8, v: i64| {
             let limit = (1..code).fold(16i64, |l, _| l * 2);
             (-limit..=limit - 1).contains(&v)
@@ -55,7 +56,7 @@ impl Block {
     }
 
     /// One more than the highest byte that a sample of the block stands at, or none where the luma block is not inside.
-    fn end(&self) -> Option<u64> {
+    pub fn end(&self) -> Option<u64> {
         let (vx, vy) = self.vector();
         let samples = |size: i64, place: u16, v: i64| {
             let first = size * place as i64 + v.div_euclid(2);

@@ -4,14 +4,30 @@
 //!
 //!     reference leaf DIR      writes DIR/stdin and DIR/stdout, the cases of crates/leaf_cases
 //!     reference command DIR   the same for headers, commands read alone and records written alone
+//!     reference batch DIR     the same for whole batches beside their buffers' lengths
 
+mod batch;
+mod batch_cases;
+mod batch_damage;
+mod batch_document;
+mod batch_faults;
+mod batch_rules;
+mod batch_valid;
 mod cases;
+mod check;
+mod check_macroblock;
+mod check_picture;
 mod command;
 mod command_cases;
 mod leaf;
 mod random;
 mod record;
 mod record_cases;
+mod rules_macroblock;
+mod rules_sequence;
+mod rules_state;
+mod rules_vectors;
+mod valid_cases;
 
 use std::path::Path;
 use std::process::ExitCode;
@@ -21,8 +37,9 @@ fn main() -> ExitCode {
     let done = match words.iter().map(String::as_str).collect::<Vec<_>>()[..] {
         ["leaf", dir] => leaf::write(Path::new(dir)),
         ["command", dir] => cases::write(Path::new(dir)),
+        ["batch", dir] => batch_cases::write(Path::new(dir)),
         _ => {
-            eprintln!("usage: reference leaf|command DIR");
+            eprintln!("usage: reference leaf|command|batch DIR");
             return ExitCode::from(2);
         }
     };

@@ -1,0 +1,205 @@
+-- The fold over all the words is the fold from the command at `at` over what is left.
+use mathlib.Core.Path.{_≡_, sym, _∙_}
+use mathlib.Core.List.{[], foldl}
+use mathlib.Core.Logic.{⊎-elim}
+use Prim.Native.Nat.{_+_, _-_, _≤_}
+use native.Mathlib.Omega.{arith}
+use native.Mathlib.Nat.{add-zero}
+use borrow.Author.Needs.{needs}
+use lib.ListN.{length, drop}
+use Rattle.command.specs.Macroblocks.{wordAt}
+use Rattle.progress.specs.declared.Verdict.{Verdict}
+use Rattle.judging.proofs.JudgingLaws.{stops-within}
+use Rattle.batch.specs.Walk.{step, going, after}
+use Rattle.batch.proofs.WalkLaws.{stays}
+use Rattle.batch.proofs.Turns.{turn, turn-zero, turn-behind, turn-unknown, turn-short, finished, Begun, begun-known, begun-carried}
+use Rattle.batch.proofs.walking.walk_within.Statement.{statement}
+use Rattle.batch.proofs.walking.walk_within.Tie as tie
+
+abbrev Inv-loop : tie.InvT-loop
+Inv-loop base words p₀ at₀ p at =
+    (at ≤ length words) × (foldl step (going base p₀ []) words ≡ foldl step (going (base + at) p []) (drop at words))
+
+abbrev μ-loop : tie.MeasureT-loop
+μ-loop base words p₀ at₀ p at = length words - at
+
+-- the header that was read begins a command
+begun : (c : tie.At-match-came Inv-loop μ-loop)
+    → Begun (wordAt (c .before .before .before .before .before .before .before .args .words .now) (c .before .before .before .before .before .loop .at)) (c .match .header) (c .match .n)
+begun c =
+    ⊎-elim
+    (λ t. rw (t .3, t .4) (begun-known _ _ _ _ (c .before .read-header .ensures) (t .1 .given .1)))
+    (λ t. rw (t .3, t .4) (begun-carried _ _ _ (c .before .read-header .ensures) (t .1 .given .1)))
+    (c .match .came)
+
+fits : (c : tie.Else3 Inv-loop μ-loop)
+    → c .before .before .before .before .before .before .loop .at + c .before .match .n
+    ≤ length (c .before .before .before .before .before .before .before .before .args .words .now)
+fits c = omega (arith, c .if3 .left, c .before .before .before .before .before .loop-test .taken)
+
+-- what the words come to, by the verdict on that command
+judged-there : (c : tie.After-judge Inv-loop μ-loop) (v : Verdict) → c .judge .result ≡ v
+    → let m = c .before .before .before .before in
+    let s = m .before .before .before .before .before .before .before in
+    let l = m .before .before .before .before .before .loop in
+    foldl step (going (s .args .base) (s .args .progress) []) (s .args .words .now)
+    ≡ foldl step (after (s .args .base + l .at) (s .args .base + (l .at + m .match .n)) v) (drop (l .at + m .match .n) (s .args .words .now))
+judged-there c v e =
+    let m = c .before .before .before .before in
+    let s = m .before .before .before .before .before .before .before in
+    let l = m .before .before .before .before .before .loop in
+    let b = begun m in
+    l .inv .1
+    ∙ turn (s .args .base) (l .at) (m .match .n) (l .p) (s .args .words .now) (m .match .header) v (m .before .before .if1 .left) (s .pre) (b .some)
+    (fits (c .before .before .before)) (b .is) (b .count) (sym (c .judge .ensures) ∙ e)
+
+loop-holds : tie.Need-loop-holds Inv-loop μ-loop
+loop-holds c = (search needs, simp add-zero)
+
+mul-word : tie.Need-mul-word Inv-loop μ-loop
+mul-word c = search needs
+
+shared-slice-read-word : tie.Need-shared-slice-read-word Inv-loop μ-loop
+shared-slice-read-word c = search needs
+
+add-place : tie.Need-add-place Inv-loop μ-loop
+add-place c = search needs
+
+returns : tie.Need-returns Inv-loop μ-loop
+returns c =
+    let s = c .before .before .before .before .before .before in
+    let l = c .before .before .before .before .loop in
+    sym (l .inv .1 ∙ turn-behind (s .args .base) (l .at) (l .p) (s .args .words .now) (s .pre) (c .before .before .before .loop-test .taken) (c .before .if1 .taken) (c .if2 .taken))
+
+add-at : tie.Need-add-at Inv-loop μ-loop
+add-at c = search needs
+
+loop-less : tie.Need-loop-less Inv-loop μ-loop
+loop-less c = search needs
+
+loop-again : tie.Need-loop-again Inv-loop μ-loop
+loop-again c =
+    let s = c .before .before .before .before .before .before in
+    let l = c .before .before .before .before .loop in
+    (search needs, l .inv .1 ∙ turn-zero (s .args .base) (l .at) (l .p) (s .args .words .now) (s .pre) (c .before .before .before .loop-test .taken) (c .before .if1 .taken) (c .if2 .left))
+
+read-header-requires : tie.Need-read-header-requires Inv-loop μ-loop
+read-header-requires c κs = search needs
+
+enum-known-header : tie.Need-enum-known-header Inv-loop μ-loop
+enum-known-header c = search needs
+
+enum-known-header-2 : tie.Need-enum-known-header-2 Inv-loop μ-loop
+enum-known-header-2 c = search needs
+
+enum-told : tie.Need-enum-told Inv-loop μ-loop
+enum-told c = search needs
+
+returns-2 : tie.Need-returns-2 Inv-loop μ-loop
+returns-2 c =
+    let s = c .before .before .before .before .before .before .before .before in
+    let l = c .before .before .before .before .before .before .loop in
+    sym (l .inv .1 ∙ turn-unknown (s .args .base) (l .at) (l .p) (s .args .words .now) (s .pre)
+    (c .before .before .before .before .before .loop-test .taken) (c .before .before .before .if1 .left)
+    (sym (c .before .before .read-header .ensures) ∙ c .enum-told .given .1))
+
+sub-if3 : tie.Need-sub-if3 Inv-loop μ-loop
+sub-if3 c = search needs
+
+returns-3 : tie.Need-returns-3 Inv-loop μ-loop
+returns-3 c =
+    let s = c .before .before .before .before .before .before .before .before in
+    let l = c .before .before .before .before .before .before .loop in
+    let b = begun (c .before) in
+    sym (l .inv .1 ∙ turn-short (s .args .base) (l .at) (l .p) (s .args .words .now) (s .pre)
+    (c .before .before .before .before .before .loop-test .taken) (c .before .match .header) (c .before .before .before .if1 .left)
+    (b .is) (rw (← b .count) (c .if3 .taken)))
+
+add-end : tie.Need-add-end Inv-loop μ-loop
+add-end c = search needs
+
+mul-judge : tie.Need-mul-judge Inv-loop μ-loop
+mul-judge c = search needs
+
+sub-judge : tie.Need-sub-judge Inv-loop μ-loop
+sub-judge c = search needs
+
+part-judge-start : tie.Need-part-judge-start Inv-loop μ-loop
+part-judge-start c = search needs
+
+part-judge-end : tie.Need-part-judge-end Inv-loop μ-loop
+part-judge-end c = search needs
+
+judge-requires : tie.Need-judge-requires Inv-loop μ-loop
+judge-requires c κs = search needs
+
+enum-known-next : tie.Need-enum-known-next Inv-loop μ-loop
+enum-known-next c = search needs
+
+loop-less-2 : tie.Need-loop-less-2 Inv-loop μ-loop
+loop-less-2 c =
+    let m = c .before .before .before .before .before .before .before in
+    omega (arith, begun m .some, c .before .before .before .before .before .before .if3 .left)
+
+loop-again-2 : tie.Need-loop-again-2 Inv-loop μ-loop
+unfolding after
+loop-again-2 c =
+    (fits (c .before .before .before .before .before .before), judged-there (c .before .before .before) _ (c .before .next .given .1))
+
+enum-known-number : tie.Need-enum-known-number Inv-loop μ-loop
+enum-known-number c = search needs
+
+add-t28 : tie.Need-add-t28 Inv-loop μ-loop
+add-t28 c =
+    let m = c .before .before .before .before .before .before .before in
+    let near = stops-within _ _ _ _ _ (sym (c .before .before .before .judge .ensures) ∙ c .before .number .given .1) in
+    omega (arith, near, m .before .before .before .before .before .before .before .pre, m .before .before .before .before .loop-test .taken)
+
+returns-4 : tie.Need-returns-4 Inv-loop μ-loop
+unfolding after
+returns-4 c =
+    let m = c .before .before .before .before .before .before .before in
+    let s = m .before .before .before .before .before .before .before in
+    let l = m .before .before .before .before .before .loop in
+    sym (judged-there (c .before .before .before) _ (c .before .number .given .1) ∙ stays _ _ (drop (l .at + m .match .n) (s .args .words .now)))
+
+returns-5 : tie.Need-returns-5 Inv-loop μ-loop
+returns-5 c =
+    let l = c .before .loop in
+    let a = c .before .before .before .args in
+    sym (l .inv .1 ∙ finished (a .base) (l .at) (l .p) (a .words .now) (c .loop-test .left))
+
+pub walk-within-spec : {M : Type 1} → statement M
+walk-within-spec =
+    tie.close
+    (tie.spec
+    Inv-loop
+    μ-loop
+    loop-holds
+    mul-word
+    shared-slice-read-word
+    add-place
+    returns
+    add-at
+    loop-less
+    loop-again
+    read-header-requires
+    enum-known-header
+    enum-known-header-2
+    enum-told
+    returns-2
+    sub-if3
+    returns-3
+    add-end
+    mul-judge
+    sub-judge
+    part-judge-start
+    part-judge-end
+    judge-requires
+    enum-known-next
+    loop-less-2
+    loop-again-2
+    enum-known-number
+    add-t28
+    returns-4
+    returns-5)

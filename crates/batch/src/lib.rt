@@ -1,0 +1,32 @@
+// The check of a batch of commands.
+mod checking;
+mod reporting;
+mod walking;
+
+pub use checking::check;
+use progress::Extents;
+use progress::Progress;
+pub use reporting::report_of;
+pub use walking::walk;
+
+// The lengths in bytes of the four picture buffers that a batch is checked with.
+pub struct Lengths {
+    pub source: u64,
+    pub reconstructed: u64,
+    pub forward: u64,
+    pub backward: u64,
+}
+
+// What the checker answers: accepted; refused because lent memory is too short (number and place); both with what is touched,
+// whose ends are document 01's four lengths; or refused by another rule (number and place), with no lengths.
+pub enum Report {
+    Accepted(Extents),
+    Short(u8, u64, Extents),
+    Refused(u8, u64),
+}
+
+// What a run of words came to: refused, or the progress and how many of the words whole commands took.
+pub enum Walked {
+    Stopped(u8, u64),
+    Going(Progress, usize),
+}

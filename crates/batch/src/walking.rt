@@ -1,0 +1,69 @@
+// Walking through the commands of a run of words.
+use crate::Walked;
+use command::Header;
+use progress::Progress;
+use progress::Verdict;
+ghost use mathlib.Core.Path.{_≡_};
+ghost use mathlib.Core.List.{[], foldl};
+ghost use Prim.Native.Nat.{_+_, _-_, _≤_};
+ghost use lib.ListN.{length};
+ghost use Rattle.batch.specs.Walk.{limit, going, step, walkOf};
+
+// A run of words that ends within the words that are judged. Commands are judged where they stand.
+fn walk_within(progress: Progress, base: u32, words: &[u32]) -> Walked
+    requires { ⌜ base + length (now words) ≤ limit ⌝ }
+    ensures { λ r. ⌜ walkOf base (now (words .entry)) r ≡ foldl step (going base progress []) (now (words .entry)) ⌝ }
+{
+    let mut p = progress;
+    let mut at = 0;
+    while at < words.len() {
+        let word = words[at];
+        let place = base as u64 + at as u64;
+        if p.stage.ended {
+            if word != 0 {
+                return Walked::Stopped(12, place);
+            }
+            at += 1;
+        } else {
+            let header = command::read_header(word);
+            let (Header::Known(_, n) | Header::Carried(n)) = header else {
+                return Walked::Stopped(2, place);
+            };
+            if words.len() - at < n {
+                return Walked::Going(p, at);
+            }
+            let end = at + n;
+            match judging::judge(header, p, &words[at..end]) {
+                Verdict::Next(next) => {
+                    p = next;
+                    at = end;
+                }
+                Verdict::Stop(number, word) => {
+                    return Walked::Stopped(number, place + word);
+                }
+            }
+        }
+    }
+    Walked::Going(p, at)
+}
+
+// The words that are judged from word base on. A call, so that no proof meets the number as the length of a part.
+fn room_from(base: u32) -> usize
+    ensures { λ r. ⌜ r ≡ limit - base ⌝ }
+{
+    (4294967295 - base) as usize
+}
+
+// A run of words, the first of them at word base of the batch, from a progress.
+pub fn walk(progress: Progress, base: u32, words: &[u32]) -> Walked
+    ensures { λ r. ⌜ walkOf base (now (words .entry)) r ≡ foldl step (going base progress []) (now (words .entry)) ⌝ }
+{
+    let room = room_from(base);
+    if words.len() <= room {
+        return walk_within(progress, base, words);
+    }
+    match walk_within(progress, base, &words[0..room]) {
+        Walked::Stopped(number, place) => Walked::Stopped(number, place),
+        Walked::Going(_, _) => Walked::Stopped(27, 4294967295),
+    }
+}

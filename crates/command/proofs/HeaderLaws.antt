@@ -1,0 +1,81 @@
+-- How many words commands have, by a test of the table's rows.
+use mathlib.Core.Bool.{Bool, true, false, cond, _&&_}
+use mathlib.Core.List.{List, [], _∷_}
+use mathlib.Core.Path.{_≡_, refl, sym, ap, subst, _∙_}
+use Prim.Native.Nat.{ℕ, _≤_}
+use native.Mathlib.Omega.{arith}
+use lib.Dec.{T, eqb, leb, leb→le, eqb→eq}
+use Rattle.command.specs.Headers.{Row, table, lookUp, headerOf, wordsIn}
+use Rattle.command.specs.declared.Header.{Header}
+use Rattle.command.specs.declared.Header.the-variants.{Known, Carried, Unknown}
+use Rattle.command.specs.declared.Opcode.{Opcode}
+use Rattle.command.specs.declared.Opcode.the-variants.{Noop, End, Surface, Picture, SliceGroup, Macroblock}
+
+abbrev every : (Header → Bool) → List Row → Bool
+every f [] = f Unknown
+every f (r ∷ rs) = f (r .begins) && every f rs
+
+both : (a b : Bool) → T (a && b) → T a × T b
+both true b t = (tt, t)
+both false b t = absurd t
+
+either : (f : Header → Bool) (t : Bool) (a b : Header) → T (f a) → T (f b) → T (f (cond t a b))
+either f true a b p q = p
+either f false a b p q = q
+
+rows : (f : Header → Bool) (rs : List Row) (w : ℕ) → T (every f rs) → T (f (lookUp rs w))
+unfolding lookUp
+rows f [] w t = t
+rows f (r ∷ rs) w t =
+    let h = both (f (r .begins)) (every f rs) t in
+    either f (eqb w (r .header)) (r .begins) (lookUp rs w) (h .0) (rows f rs w (h .1))
+
+every-header : (f : Header → Bool) (w : ℕ) → T (unfold table in every f table) → T (f (headerOf w))
+unfolding headerOf table
+every-header f w t = rows f table w t
+
+-- the header of a command of 1 to 61 words, and that of MACROBLOCK with its nine
+abbrev sized : Header → Bool
+sized (Known Noop n) = eqb n 1
+sized (Known End n) = eqb n 1
+sized (Known Surface n) = eqb n 6
+sized (Known Picture n) = eqb n 13
+sized (Known SliceGroup n) = eqb n 8
+sized (Known Macroblock n) = eqb n 9
+sized (Carried n) = leb 1 n && leb n 61
+sized Unknown = true
+
+abbrev few : Header → Bool
+few (Known o n) = leb 1 n && leb n 61
+few (Carried n) = leb 1 n && leb n 61
+few Unknown = true
+
+all-few : (w : ℕ) → T (few (headerOf w))
+unfolding table
+all-few w = every-header few w tt
+
+between : (n : ℕ) → T (leb 1 n && leb n 61) → (1 ≤ n) × (n ≤ 61)
+between n t = let h = both (leb 1 n) (leb n 61) t in (leb→le 1 n (h .0), leb→le n 61 (h .1))
+
+-- A word that begins a command begins one of 1 to 61 words.
+pub known-size : (w : ℕ) (o : Opcode) (n : ℕ) → headerOf w ≡ Known o n → (1 ≤ n) × (n ≤ 61)
+known-size w o n e = between n (subst (λ (h : Header). T (few h)) e (all-few w))
+
+pub carried-size : (w n : ℕ) → headerOf w ≡ Carried n → (1 ≤ n) × (n ≤ 61)
+carried-size w n e = between n (subst (λ (h : Header). T (few h)) e (all-few w))
+
+pub words-few : (w : ℕ) → wordsIn (headerOf w) ≤ 61
+words-few w = by (headerOf w) (all-few w)
+  where
+    by : (h : Header) → T (few h) → wordsIn h ≤ 61
+    by (Known o n) t = between n t .1
+    by (Carried n) t = between n t .1
+    by Unknown t = omega arith
+
+-- Each known command has the words that the table gives it.
+all-sized : (w : ℕ) → T (sized (headerOf w))
+unfolding table
+all-sized w = every-header sized w tt
+
+pub macroblock-size : (w n : ℕ) → headerOf w ≡ Known Macroblock n → n ≡ 9
+macroblock-size w n e = eqb→eq n 9 (subst (λ (h : Header). T (sized h)) e (all-sized w))

@@ -1,0 +1,16 @@
+use borrow.Author.Tests.{not-true, not-false}
+use Rattle.judging.proofs.judging.sequence_fault.Statement.{statement}
+use Rattle.judging.proofs.judging.sequence_fault.Tie as tie
+use Rattle.judging.proofs.judging.sequence_fault.Reads as reads
+use Rattle.judging.proofs.judging.sequence_fault.Lts as lts
+
+-- src/judging.rt:19:9
+returns : tie.Need-returns
+returns c = simp (not-true (c .before .args .permitted) (c .if1 .taken))
+
+-- src/judging.rt:15:1
+returns-2 : tie.Need-returns-2
+returns-2 c = simp (not-false (c .before .args .permitted) (c .if1 .left))
+
+pub sequence-fault-spec : {M : Type 1} → statement M
+sequence-fault-spec = tie.close (tie.spec returns returns-2)

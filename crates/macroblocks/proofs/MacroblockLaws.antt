@@ -1,0 +1,51 @@
+-- What holds of a MACROBLOCK command that keeps its rules, and the parts of its judgement put together.
+use mathlib.Core.Path.{_≡_, refl, sym, subst, _∙_, ap, ap₂}
+use mathlib.Core.List.{List}
+use Prim.Native.Nat.{ℕ, _+_, _*_, _<_}
+use native.Mathlib.Omega.{arith}
+use borrow.Author.Tests.{ltb-true, ltb-false, lt-ltb, le-ltb, eqb-true}
+use lib.Dec.{T, eqb, ltb}
+use Rattle.answers.specs.Answers.{earlier, judged}
+use Rattle.answers.specs.declared.Answer.{Answer}
+use Rattle.answers.specs.declared.Answer.the-variants.{Accepted}
+use Rattle.answers.proofs.Judging.{judged-append, all-hold, within, within-both}
+use Rattle.command.specs.Macroblocks.{macroblockOf}
+use Rattle.command.specs.Rules.{commandRules}
+use Rattle.command.specs.declared.Macroblock.{Macroblock}
+use Rattle.command.proofs.CaseLaws.{and-left, and-right}
+use Rattle.command.proofs.CommandLaws.{command-within}
+use Rattle.progress.specs.declared.Progress.{Progress}
+use Rattle.macroblocks.specs.Blocks.{blocksOf}
+use Rattle.macroblocks.specs.Placing.{placedBy, placedRules, macroblockRules}
+use Rattle.macroblocks.specs.Progressing.{progressAfter, macroblockNext}
+use Rattle.macroblocks.specs.declared.Blocks.{Blocks}
+use Rattle.macroblocks.specs.declared.Placed.{Placed}
+
+-- the answer, from the answers to the two tables
+pub judged-whole : (p : Progress) (ws : List ℕ) {m : Macroblock} {b : Blocks} {r : Placed} {a d f : Answer} → m ≡ macroblockOf ws
+    → b ≡ blocksOf p (m .case) → r ≡ placedBy p b m ws → a ≡ judged (placedRules r) → d ≡ judged (commandRules ws) → f ≡ earlier a d
+    → f ≡ judged (macroblockRules p ws)
+unfolding macroblockRules
+judged-whole p ws {m} {b} {r} em eb er ea ed ef =
+    let b' = blocksOf p (macroblockOf ws .case) in
+    let is : r ≡ placedBy p b' (macroblockOf ws) ws = er ∙ simp (eb, em) in
+    ef ∙ ap₂ earlier (ea ∙ ap (λ (x : Placed). judged (placedRules x)) is) ed
+    ∙ sym (judged-append (placedRules (placedBy p b' (macroblockOf ws) ws)) (commandRules ws))
+
+-- the progress after it
+pub next-whole : (p : Progress) (ws : List ℕ) {m : Macroblock} {b : Blocks} {n : Progress} → m ≡ macroblockOf ws
+    → b ≡ blocksOf p (m .case) → n ≡ progressAfter p b m ws → n ≡ macroblockNext p ws
+unfolding macroblockNext
+next-whole p ws em eb en = en ∙ simp (eb, em)
+
+-- A macroblock that is accepted comes before the picture is full.
+pub row-left : (p : Progress) (ws : List ℕ) → judged (macroblockRules p ws) ≡ Accepted → p .position .row < p .picture .grid .rows
+unfolding macroblockRules placedRules placedBy
+row-left p ws e =
+    let g = p .stage .«in_group» in
+    ltb-true (p .position .row) (p .picture .grid .rows) (and-right g (ltb (p .position .row) (p .picture .grid .rows)) (all-hold (macroblockRules p ws) e .0))
+
+-- The rules refuse at words 0 to 8.
+pub macroblock-within : (p : Progress) (ws : List ℕ) → T (within 8 (macroblockRules p ws))
+unfolding macroblockRules placedRules
+macroblock-within p ws = within-both 8 (placedRules (placedBy p (blocksOf p (macroblockOf ws .case)) (macroblockOf ws) ws)) (commandRules ws) tt (command-within ws)

@@ -1,0 +1,3 @@
+pub mod Fixed
+pub mod Pictures
+pub mod Surfaces

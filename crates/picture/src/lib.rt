@@ -1,0 +1,32 @@
+// What the SURFACE and PICTURE commands say, and the rules that they keep.
+mod fixed;
+mod pictures;
+mod surfaces;
+
+pub use pictures::picture_fault;
+pub use pictures::picture_of;
+use prediction::Grid;
+use prediction::Surface;
+pub use surfaces::surface_fault;
+pub use surfaces::surface_of;
+
+// What SURFACE says: the picture's size in samples, and the layout of its buffers.
+pub struct Frame {
+    pub width: u16,
+    pub height: u16,
+    pub surface: Surface,
+}
+
+// The f codes of one reference's vectors, for each component.
+pub struct Codes {
+    pub x: u8,
+    pub y: u8,
+}
+
+// What PICTURE says: its coding type (1 I, 2 P, 3 B), the f codes of both references, and its size in macroblocks.
+pub struct Picture {
+    pub coding: u8,
+    pub forward: Codes,
+    pub backward: Codes,
+    pub grid: Grid,
+}

@@ -1,0 +1,170 @@
+//! Cases for the check of a whole batch, one after another:
+//!
+//!     0..4   how many words
+//!     4..36  the four buffers' lengths, 8 bytes each
+//!     36..   the words, 4 bytes each
+//!
+//! all of it little-endian.
+
+use crate::batch_damage::damage;
+use crate::batch_document::document;
+use crate::batch_faults::faults;
+use crate::batch_rules::rule_table;
+use crate::check::{check, line, Report};
+use crate::valid_cases::valid;
+use std::collections::HashSet;
+use std::path::Path;
+
+pub struct Case {
+    words: Vec<u32>,
+    buffers: [u64; 4],
+    report: Report,
+}
+
+impl Case {
+    fn bytes(&self) -> Vec<u8> {
+        let mut bytes = (self.words.len() as u32).to_le_bytes().to_vec();
+        bytes.extend(self.buffers.iter().flat_map(|length| length.to_le_bytes()));
+        bytes.extend(self.words.iter().flat_map(|word| word.to_le_bytes()));
+        bytes
+    }
+}
+
+/// A list without duplicates.
+#[derive(Default)]
+pub struct Cases {
+    list: Vec<Case>,
+    seen: HashSet<(Vec<u32>, [u64; 4])>,
+}
+
+impl Cases {
+    pub fn push(&mut self, words: Vec<u32>, buffers: [u64; 4]) -> Report {
+        let report = check(&words, buffers);
+        if self.seen.insert((words.clone(), buffers)) {
+            self.list.push(Case { words, buffers, report });
+        }
+        report
+    }
+}
+
+/// The lengths that a batch needs.
+pub fn needed(words: &[u32]) -> [u64; 4] {
+    check(words, [u64::MAX; 4]).lengths
+}
+
+fn cases() -> Vec<Case> {
+    let mut cases = Cases::default();
+    document(&mut cases);
+    rule_table(&mut cases);
+    valid(&mut cases);
+    damage(&mut cases);
+    faults(&mut cases);
+    cases.list
+}
+
+pub fn write(dir: &Path) -> std::io::Result<()> {
+    let cases = cases();
+    let lines: String = cases.iter().map(|case| line(&case.report) + "\n").collect();
+    std::fs::create_dir_all(dir)?;
+    std::fs::write(dir.join("stdin"), cases.iter().flat_map(Case::bytes).collect::<Vec<u8>>())?;
+    std::fs::write(dir.join("stdout"), lines)
+}
+
+#[cfg(test)]
+mod tests {
+    use super::*;
+    use crate::batch_rules::table;
+    use crate::command::header;
+    use std::collections::BTreeSet;
+
+    /// The command and the word of it that a place stands in, or none past END.
+    fn command_at(words: &[u32], place: usize) -> Option<(&'static str, usize)> {
+        let mut at = 0;
+        loop {
+            let (name, count) = header(words[at]).unwrap_or(("unknown", 1));
+            if place < at + count {
+                return Some((name, place - at));
+            }
+            at += count;
+            if name == "END" {
+                return None;
+            }
+        }
+    }
+
+    /// Numbers 2 to 11 at each word where one can stand.
+    fn places_due() -> BTreeSet<(u8, &'static str, usize)> {
+        let mut due = BTreeSet::from([(2, "unknown", 0)]);
+        due.extend(["SURFACE", "PICTURE", "SLICEGROUP", "MACROBLOCK", "carried", "END"].map(|name| (3, name, 0)));
+        due.extend([1, 2, 3, 4].map(|word| (4, "SURFACE", word)));
+        due.extend([(4, "PICTURE", 1), (5, "SURFACE", 3), (5, "PICTURE", 2), (5, "PICTURE", 3)]);
+        due.extend([1, 3, 4].map(|word| (4, "MACROBLOCK", word)));
+        due.extend([1, 3, 4].map(|word| (5, "MACROBLOCK", word)));
+        due.extend([(6, 2), (7, 4), (8, 5), (8, 6), (8, 7), (8, 8)].map(|(number, word)| (number, "MACROBLOCK", word)));
+        due.extend([(9, 5), (9, 6), (10, 5), (10, 6), (11, 1)].map(|(number, word)| (number, "MACROBLOCK", word)));
+        due
+    }
+
+    #[test]
+    fn every_number_at_every_place() {
+        let cases = cases();
+        let numbers: BTreeSet<u8> = cases.iter().map(|case| case.report.number).collect();
+        assert!(numbers.into_iter().eq(0..=13));
+        let of = |range: std::ops::RangeInclusive<u8>| cases.iter().filter(move |case| range.contains(&case.report.number));
+        let found = of(2..=11).map(|case| {
+            let (name, word) = command_at(&case.words, case.report.place as usize).unwrap();
+            (case.report.number, name, word)
+        });
+        assert_eq!(found.collect::<BTreeSet<_>>(), places_due());
+        assert!(of(0..=0).all(|case| case.report.place == 0));
+        assert!(of(1..=1).all(|case| case.report.place == case.words.len() as u64));
+        assert!(of(12..=12).all(|case| command_at(&case.words, case.report.place as usize).is_none()));
+        assert!(of(13..=13).map(|case| case.report.place).collect::<BTreeSet<_>>().into_iter().eq(0..4));
+    }
+
+    /// Every named rule gives its number and place, and the table alone has each number at each place.
+    #[test]
+    fn named_rules() {
+        let mut places = BTreeSet::new();
+        let mut numbers = BTreeSet::new();
+        for named in table() {
+            let report = check(&named.words, named.buffers);
+            assert_eq!((report.number, report.place as usize), named.due, "{}", named.name);
+            numbers.insert(report.number);
+            if (2..=11).contains(&report.number) {
+                let (name, word) = command_at(&named.words, named.due.1).unwrap();
+                places.insert((report.number, name, word));
+            }
+        }
+        assert_eq!(places, places_due());
+        assert!(numbers.into_iter().eq(0..=13));
+    }
+
+    /// Demand 3, and "the four lengths are reported with 0, 13 and 14, else zeros".
+    #[test]
+    fn lengths() {
+        for case in cases() {
+            let Report { number, place, lengths } = case.report;
+            let short = (0..4).find(|n| case.buffers[*n] < lengths[*n]);
+            assert_eq!(short, (number == 13).then_some(place as usize));
+            assert!(matches!(number, 0 | 13) || lengths == [0; 4]);
+            for buffers in [[0; 4], [u64::MAX; 4]] {
+                let other = check(&case.words, buffers);
+                assert_eq!(other.lengths, lengths);
+                assert!(matches!(number, 0 | 13) || other == case.report);
+            }
+        }
+    }
+
+    #[test]
+    fn form_of_the_cases() {
+        let cases = cases();
+        let bytes: usize = cases.iter().map(|case| case.bytes().len()).sum();
+        assert!(bytes < 700_000, "{bytes}");
+        assert!(cases.iter().all(|case| case.words.len() <= 2000));
+        let one = &cases[0].bytes();
+        assert_eq!(one.len(), 36 + 4 * 37);
+        assert_eq!(one[..12], [37, 0, 0, 0, 0x90, 0x0b, 0, 0, 0, 0, 0, 0]);
+        assert_eq!(one[36..40], [0x04, 0, 0x01, 0x70]);
+    }
+}

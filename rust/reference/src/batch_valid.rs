@@ -1,0 +1,181 @@
+//! Batches that keep every rule.
+
+use crate::batch::{lay_out, skip, Batch, End, Frame};
+use crate::command::*;
+use crate::command_cases::plain;
+use crate::leaf::word_of;
+use crate::random::Random;
+
+/// True once in n times.
+pub fn once_in(r: &mut Random, n: i64) -> bool {
+    r.within(1, n) == 1
+}
+
+/// One of a list.
+pub fn pick<T: Copy>(r: &mut Random, list: &[T]) -> T {
+    list[r.within(0, list.len() as i64 - 1) as usize]
+}
+
+/// Low or high end of a range, next to it, or anything between.
+fn near_ends(r: &mut Random, low: i64, high: i64) -> i64 {
+    let between = r.within(low, high);
+    pick(r, &[low, high, (low + 1).min(high), (high - 1).max(low), between, between])
+}
+
+/// Any sizes and f codes that a picture of this type and so many macroblocks can have.
+pub fn random_frame(r: &mut Random, sort: u32, columns: u32, rows: u32) -> Frame {
+    let mut near = |low: u32, high: u32| near_ends(r, low.into(), high.into()) as u32;
+    let mut frame = Frame {
+        width: near(16 * columns - 15, 16 * columns),
+        height: near(16 * rows - 15, 16 * rows),
+        pitch: 128 * near((16 * columns).div_ceil(128), 1024),
+        chroma_row: near(16 * rows, 32767),
+        ..Frame::new(sort, columns, rows)
+    };
+    frame.codes = frame.codes.map(|code| if code == 15 { 15 } else { r.within(1, 9) as u32 });
+    frame
+}
+
+/// The values that a component of a vector may have, at a place in a line of n macroblocks.
+fn span(code: u32, place: u32, n: u32) -> (i64, i64) {
+    let limit = (1..code).fold(16, |limit, _| 2 * limit);
+    ((-limit).max(-32 * i64::from(place)), (limit - 1).min(32 * i64::from(n - 1 - place)))
+}
+
+/// The spans of x and y for the k-th macroblock's forward (0) or backward (1) vector.
+fn spans(frame: &Frame, k: u32, direction: usize) -> [(i64, i64); 2] {
+    let codes = &frame.codes[2 * direction..];
+    [span(codes[0], k % frame.columns, frame.columns), span(codes[1], k / frame.columns, frame.rows)]
+}
+
+fn random_vector(r: &mut Random, frame: &Frame, k: u32, direction: usize) -> u32 {
+    let [x, y] = spans(frame, k, direction).map(|(low, high)| near_ends(r, low, high));
+    word_of(x, y)
+}
+
+fn fits(frame: &Frame, k: u32, direction: usize, vector: u32) -> bool {
+    let components = [vector as u16 as i16, (vector >> 16) as u16 as i16];
+    spans(frame, k, direction).iter().zip(components).all(|((low, high), v)| (*low..=*high).contains(&v.into()))
+}
+
+/// A skipped macroblock that may follow the one before it.
+fn skipped(frame: &Frame, k: u32, before: &Command) -> Option<Command> {
+    let (forward, backward) = (before[5], before[6]);
+    match (frame.sort, kind(before)?) {
+        (2, _) => Some(skip(1, 0, 0)),
+        (3, 1) if fits(frame, k, 0, forward) => Some(skip(1, forward, 0)),
+        (3, 2) if fits(frame, k, 1, backward) => Some(skip(2, 0, backward)),
+        (3, 3) if fits(frame, k, 0, forward) && fits(frame, k, 1, backward) => Some(skip(3, forward, backward)),
+        _ => None,
+    }
+}
+
+fn random_end(r: &mut Random, frame: &Frame, k: u32) -> End {
+    match k + 1 {
+        next if next as usize == frame.macroblocks() => End::Group,
+        next if next % frame.columns == 0 => pick(r, &[End::Slice, End::Slice, End::Slice, End::Group]),
+        _ if once_in(r, 4) => pick(r, &[End::Slice, End::Slice, End::Group]),
+        _ => End::Nothing,
+    }
+}
+
+fn random_coded(r: &mut Random, frame: &Frame, k: u32) -> Command {
+    let kind = pick(r, [&[0][..], &[0, 1, 1, 1], &[0, 1, 2, 3, 3]][frame.sort as usize - 1]);
+    let has = |direction: u32| kind & direction != 0;
+    let forward = if has(1) { random_vector(r, frame, k, 0) } else { 0 };
+    let backward = if has(2) { random_vector(r, frame, k, 1) } else { 0 };
+    let mut c = plain(kind, forward, backward);
+    if kind != 0 {
+        PATTERN.set(&mut c, r.next() as u32);
+    }
+    c
+}
+
+/// The macroblocks of a picture, their free fields filled at random.
+fn random_macroblocks(r: &mut Random, frame: &Frame) -> Vec<(Command, End)> {
+    let mut all: Vec<(Command, End)> = Vec::new();
+    for k in 0..frame.macroblocks() as u32 {
+        let end = random_end(r, frame, k);
+        let open = all.last().filter(|(_, before)| *before == End::Nothing && end == End::Nothing && !once_in(r, 3));
+        let mut c = open.and_then(|(before, _)| skipped(frame, k, before)).unwrap_or_else(|| random_coded(r, frame, k));
+        for f in [CARRIED, MAXIMUM, TARGET, CLAMP] {
+            f.set(&mut c, r.next() as u32);
+        }
+        NO_CONVERSION.set(&mut c, if frame.sort == 1 { 0 } else { r.next() as u32 });
+        QUANTISER.set(&mut c, near_ends(r, 1, 31) as u32);
+        all.push((c, end));
+    }
+    all
+}
+
+/// Unread words and free bits at random, now and then a word that begins a command elsewhere.
+fn fill(r: &mut Random, batch: &mut Batch) {
+    let mut unread = |words: &mut [u32]| {
+        words.iter_mut().for_each(|word| *word = if once_in(r, 4) { pick(r, &COMMANDS).0 } else { r.next() as u32 })
+    };
+    for command in &mut batch.0 {
+        match header(command[0]).unwrap().0 {
+            "SURFACE" => unread(&mut command[5..]),
+            "SLICEGROUP" | "carried" => unread(&mut command[1..]),
+            "PICTURE" => {
+                let mut free = [0; 3];
+                unread(&mut free);
+                command[1] |= free[0] & 0x0000_c9c0;
+                command[2] |= free[1] & !0x0000_0600;
+                command[3] |= free[2] & 0xff00_ff00;
+                unread(&mut command[4..]);
+            }
+            _ => {}
+        }
+    }
+}
+
+/// NOOPs between any commands, carried commands before the first SLICEGROUP (command 2), zero words after END.
+fn sprinkle(r: &mut Random, batch: &mut Batch, noops: usize, carried: usize) {
+    for n in 0..carried {
+        let (header, _, count) = COMMANDS[6 + n % 6];
+        let mut command = vec![0; count];
+        command[0] = header;
+        batch.0.insert(r.within(0, 2 + n as i64) as usize, command);
+    }
+    for _ in 0..noops {
+        batch.0.insert(r.within(0, batch.0.len() as i64) as usize, vec![0]);
+    }
+}
+
+/// A batch that keeps every rule, with so many NOOPs and carried commands in it.
+pub fn random_batch(r: &mut Random, frame: &Frame, noops: usize, carried: usize) -> Batch {
+    let mut batch = lay_out(frame, &random_macroblocks(r, frame));
+    sprinkle(r, &mut batch, noops, carried);
+    fill(r, &mut batch);
+    batch
+}
+
+#[cfg(test)]
+mod tests {
+    use super::*;
+    use crate::check::check;
+
+    /// Every batch is accepted, and what a batch may have comes up.
+    #[test]
+    fn accepted() {
+        let mut r = Random::new(23);
+        let mut seen = [[0; 5]; 3];
+        for n in 0..900 {
+            let (sort, columns, rows) = (n % 3 + 1, r.within(1, 6) as u32, r.within(1, 4) as u32);
+            let frame = random_frame(&mut r, sort, columns, rows);
+            let batch = random_batch(&mut r, &frame, n as usize % 5, n as usize % 7);
+            assert_eq!(check(&batch.words(), [u64::MAX; 4]).number, 0);
+            for c in batch.0.iter().filter(|command| command[0] == MACROBLOCK) {
+                let c: &Command = c[..].try_into().unwrap();
+                let mid_row = COLUMN.of(c) != columns - 1;
+                let odd = kind(c) != Some(0) && c[5] % 2 == 1;
+                let marks = [SKIP.of(c) == 1, mid_row && LAST_IN_SLICE.of(c) == 1, mid_row && LAST_IN_GROUP.of(c) == 1, odd];
+                (0..4).for_each(|mark| seen[sort as usize - 1][mark] += u32::from(marks[mark]));
+            }
+            seen[sort as usize - 1][4] += u32::from(*batch.0.last().unwrap() == [0]);
+        }
+        assert_eq!((seen[0][0], seen[0][3]), (0, 0));
+        (1..3).for_each(|sort| assert!(seen[sort].iter().all(|count| *count > 10), "{seen:?}"));
+    }
+}
