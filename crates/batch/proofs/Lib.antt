@@ -1,4 +1,6 @@
 -- for the crates above
+pub mod CommandList
+pub mod Runs
 pub mod WalkLaws
 -- for this crate alone
 mod Turns

@@ -1,10 +1,11 @@
 -- The words that begin a command.
 use Prim.Native.Nat.{ℕ}
-use mathlib.Core.Bool.{cond}
+use mathlib.Core.Bool.{Bool, false, cond}
 use mathlib.Core.List.{List, [], _∷_}
 use lib.Dec.{eqb}
 use Rattle.command.specs.declared.Header.{Header}
 use Rattle.command.specs.declared.Header.the-variants.{Known, Carried, Unknown}
+use Rattle.command.specs.declared.Opcode.{Opcode}
 use Rattle.command.specs.declared.Opcode.the-variants.{Noop, End, Surface, Picture, SliceGroup, Macroblock}
 
 pub record Row : Type 0 where
@@ -47,3 +48,17 @@ abbrev pub wordsIn : Header → ℕ
 wordsIn (Known o n) = n
 wordsIn (Carried n) = n
 wordsIn Unknown = 0
+
+-- Whether a header begins a known command of this kind.
+abbrev pub orderOf : Opcode → ℕ
+orderOf Noop = 0
+orderOf End = 1
+orderOf Surface = 2
+orderOf Picture = 3
+orderOf SliceGroup = 4
+orderOf Macroblock = 5
+
+abbrev pub begins : Opcode → Header → Bool
+begins o (Known x n) = eqb (orderOf o) (orderOf x)
+begins o (Carried n) = false
+begins o Unknown = false

@@ -1,2 +1,3 @@
 -- for the crates above
 pub mod JudgingLaws
+pub mod SequenceLaws

@@ -1,2 +1,3 @@
 -- for the crates above
 pub mod MacroblockLaws
+pub mod PositionLaws

@@ -1,10 +1,9 @@
 -- What holds of a MACROBLOCK command that keeps its rules, and the parts of its judgement put together.
-use mathlib.Core.Path.{_≡_, refl, sym, subst, _∙_, ap, ap₂}
+use mathlib.Core.Path.{_≡_, sym, _∙_, ap, ap₂}
 use mathlib.Core.List.{List}
-use Prim.Native.Nat.{ℕ, _+_, _*_, _<_}
-use native.Mathlib.Omega.{arith}
-use borrow.Author.Tests.{ltb-true, ltb-false, lt-ltb, le-ltb, eqb-true}
-use lib.Dec.{T, eqb, ltb}
+use Prim.Native.Nat.{ℕ, _<_}
+use borrow.Author.Tests.{ltb-true}
+use lib.Dec.{T, ltb}
 use Rattle.answers.specs.Answers.{earlier, judged}
 use Rattle.answers.specs.declared.Answer.{Answer}
 use Rattle.answers.specs.declared.Answer.the-variants.{Accepted}
@@ -12,7 +11,7 @@ use Rattle.answers.proofs.Judging.{judged-append, all-hold, within, within-both
 use Rattle.command.specs.Macroblocks.{macroblockOf}
 use Rattle.command.specs.Rules.{commandRules}
 use Rattle.command.specs.declared.Macroblock.{Macroblock}
-use Rattle.command.proofs.CaseLaws.{and-left, and-right}
+use Rattle.command.proofs.CaseLaws.{and-right}
 use Rattle.command.proofs.CommandLaws.{command-within}
 use Rattle.progress.specs.declared.Progress.{Progress}
 use Rattle.macroblocks.specs.Blocks.{blocksOf}

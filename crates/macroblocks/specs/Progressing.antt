@@ -1,5 +1,5 @@
 -- How far a batch has come after a MACROBLOCK command.
-use Prim.Native.Nat.{ℕ, _+_}
+use Prim.Native.Nat.{ℕ, _+_, _*_}
 use mathlib.Core.Bool.{false, cond, not}
 use mathlib.Core.List.{List}
 use lib.Dec.{ltb}
@@ -23,6 +23,10 @@ positionAfter g at =
     cond (ltb (at .column + 1) (g .columns))
     (record { column = at .column + 1; row = at .row })
     (record { column = 0; row = at .row + 1 })
+
+-- How many macroblocks come before a position, in a picture of w columns.
+abbrev pub countBefore : ℕ → Position → ℕ
+countBefore w at = at .row * w + at .column
 
 -- Document 01: "SLICEGROUP opens a group and LastMbInSG closes it." A slice likewise ends with its last macroblock.
 unfoldable pub stageAfter : Stage → Flags → Stage

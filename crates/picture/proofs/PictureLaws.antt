@@ -17,7 +17,11 @@ pub picture-within : (f : Frame) (ws : List ℕ) → T (within 8 (pictureRules f
 unfolding pictureRules pictureTable
 picture-within f ws = tt
 
--- A picture has a column of macroblocks.
+-- A picture has a column and a row of macroblocks.
 pub some-columns : (ws : List ℕ) → 1 ≤ pictureOf ws .grid .columns
 unfolding pictureOf
 some-columns ws = omega arith
+
+pub some-rows : (ws : List ℕ) → 1 ≤ pictureOf ws .grid .rows
+unfolding pictureOf
+some-rows ws = omega arith

@@ -1,0 +1,187 @@
+-- What the list of commands says of a walk that was not refused: its count, positions, surface and picture.
+use mathlib.Core.Bool.{Bool, true, false, cond}
+use mathlib.Core.List.{List, [], _∷_, foldl}
+use mathlib.Core.Path.{_≡_, refl, sym, ap, _∙_}
+use Prim.Native.Nat.{ℕ, zero, suc, _+_, _*_, _/_, _%_, _≤_, _<_}
+use native.Mathlib.Nat.{add-zero, zero-add}
+use native.Mathlib.Omega.{arith}
+use lib.ListN.{length, getD}
+use Rattle.answers.specs.Answers.{judged}
+use Rattle.answers.specs.declared.Answer.the-variants.{Accepted}
+use Rattle.command.specs.Headers.{begins}
+use Rattle.command.specs.Macroblocks.{macroblockOf}
+use Rattle.command.specs.declared.Opcode.the-variants.{Surface, Picture, Macroblock}
+use Rattle.progress.specs.Progress.{fresh}
+use Rattle.progress.specs.declared.Progress.{Progress}
+use Rattle.progress.specs.declared.Verdict.the-variants.{Next}
+use Rattle.macroblocks.proofs.PositionLaws.{own-position, in-group, position-of}
+use Rattle.judging.specs.Judging.{rulesOf, nextOf, judge}
+use Rattle.judging.proofs.JudgingLaws.{goes-on}
+use Rattle.judging.proofs.SequenceLaws.{macroblock-rules, all-come, surfaced-next, pictured-next, frame-next, picture-next, surface-once, picture-once, Sound, fresh-sound, countOf, sound-next}
+use Rattle.batch.specs.Commands.{Command, commandsOf, macroblocksIn, frameFrom, pictureFrom, frameOf, pictureIn, InOrder, howMany}
+use Rattle.batch.specs.Walk.{going, step, start}
+use Rattle.batch.proofs.Runs.{no, Run, batch-runs}
+
+-- The frame and the picture are what the list's SURFACE and PICTURE say.
+pub run-frame : (p : Progress) (cs : List Command) (q : Progress) → Run p cs q → q .frame ≡ frameFrom (p .frame) cs
+unfolding frameFrom
+run-frame p [] q r = ap (λ (x : Progress). x .frame) (sym r)
+run-frame p (c ∷ cs) q r =
+    let n = goes-on (c .header) p (c .words) (r .0) (r .1) in
+    run-frame (r .0) cs q (r .2)
+    ∙ ap (λ f. frameFrom f cs) (ap (λ (x : Progress). x .frame) (n .1) ∙ frame-next (c .header) p (c .words))
+
+pub run-picture : (p : Progress) (cs : List Command) (q : Progress) → Run p cs q → q .picture ≡ pictureFrom (p .picture) cs
+unfolding pictureFrom
+run-picture p [] q r = ap (λ (x : Progress). x .picture) (sym r)
+run-picture p (c ∷ cs) q r =
+    let n = goes-on (c .header) p (c .words) (r .0) (r .1) in
+    run-picture (r .0) cs q (r .2)
+    ∙ ap (λ x. pictureFrom x cs) (ap (λ (x : Progress). x .picture) (n .1) ∙ picture-next (c .header) p (c .words))
+
+-- Every progress on the way is sound, and the count is that of the list's MACROBLOCK commands.
+next-sound : (p : Progress) (c : Command) (t : Progress) → judge (c .header) p (c .words) ≡ Next t → Sound p
+    → Sound t × (countOf t ≡ countOf p + cond (begins Macroblock (c .header)) 1 0)
+next-sound p c t j s =
+    let n = goes-on (c .header) p (c .words) t j in
+    rw (n .1) (sound-next (c .header) p (c .words) (n .0) s)
+
+pub run-sound : (p : Progress) (cs : List Command) (q : Progress) → Run p cs q → Sound p → Sound q
+run-sound p [] q r s = rw (sym r) s
+run-sound p (c ∷ cs) q r s = run-sound (r .0) cs q (r .2) (next-sound p c (r .0) (r .1) s .0)
+
+pub run-count : (p : Progress) (cs : List Command) (q : Progress) → Run p cs q → Sound p → countOf q ≡ countOf p + length (macroblocksIn cs)
+unfolding macroblocksIn
+run-count p [] q r s = ap countOf (sym r) ∙ sym (add-zero (countOf p))
+run-count p (c ∷ cs) q r s =
+    let n = next-sound p c (r .0) (r .1) s in
+    run-count (r .0) cs q (r .2) (n .0) ∙ ap (λ (k : ℕ). k + length (macroblocksIn cs)) (n .1)
+    ∙ by (begins Macroblock (c .header))
+  where
+    by : (b : Bool) → countOf p + cond b 1 0 + length (macroblocksIn cs) ≡ countOf p + length (cond b (c .words ∷ macroblocksIn cs) (macroblocksIn cs))
+    by true = omega arith
+    by false = omega arith
+
+-- Once they have come, SURFACE and PICTURE stay: the list has at most one of each.
+abbrev flag : Bool → ℕ
+flag b = cond b 1 0
+
+once : (before now : Bool) (b : Bool) (n : ℕ) → (before ≡ true → b ≡ false) → now ≡ cond b true before → flag now + n ≤ 1 → flag before + (flag b + n) ≤ 1
+once true now true n h e l = absurd (no (h refl))
+once true now false n h e l = let k : 1 + n ≤ 1 = rw e at l in omega arith
+once false now true n h e l = let k : 1 + n ≤ 1 = rw e at l in omega arith
+once false now false n h e l = let k : 0 + n ≤ 1 = rw e at l in omega arith
+
+pub one-surface : (p : Progress) (cs : List Command) (q : Progress) → Run p cs q → flag (p .stage .surfaced) + howMany Surface cs ≤ 1
+one-surface p [] q r = at-most (p .stage .surfaced)
+  where
+    at-most : (b : Bool) → flag b + 0 ≤ 1
+    at-most true = omega arith
+    at-most false = omega arith
+one-surface p (c ∷ cs) q r =
+    let n = goes-on (c .header) p (c .words) (r .0) (r .1) in
+    once (p .stage .surfaced) (r .0 .stage .surfaced) (begins Surface (c .header)) (howMany Surface cs)
+    (surface-once (c .header) p (c .words) (n .0))
+    (ap (λ (x : Progress). x .stage .surfaced) (n .1) ∙ surfaced-next (c .header) p (c .words))
+    (one-surface (r .0) cs q (r .2))
+
+pub one-picture : (p : Progress) (cs : List Command) (q : Progress) → Run p cs q → flag (p .stage .pictured) + howMany Picture cs ≤ 1
+one-picture p [] q r = at-most (p .stage .pictured)
+  where
+    at-most : (b : Bool) → flag b + 0 ≤ 1
+    at-most true = omega arith
+    at-most false = omega arith
+one-picture p (c ∷ cs) q r =
+    let n = goes-on (c .header) p (c .words) (r .0) (r .1) in
+    once (p .stage .pictured) (r .0 .stage .pictured) (begins Picture (c .header)) (howMany Picture cs)
+    (picture-once (c .header) p (c .words) (n .0))
+    (ap (λ (x : Progress). x .stage .pictured) (n .1) ∙ pictured-next (c .header) p (c .words))
+    (one-picture (r .0) cs q (r .2))
+
+-- From then on the frame and the picture are the same.
+pub frame-kept : (p : Progress) (cs : List Command) (q : Progress) → Run p cs q → p .stage .surfaced ≡ true → q .frame ≡ p .frame
+frame-kept p [] q r s = ap (λ (x : Progress). x .frame) (sym r)
+frame-kept p (c ∷ cs) q r s =
+    let n = goes-on (c .header) p (c .words) (r .0) (r .1) in
+    let b = surface-once (c .header) p (c .words) (n .0) s in
+    frame-kept (r .0) cs q (r .2) (ap (λ (x : Progress). x .stage .surfaced) (n .1) ∙ surfaced-next (c .header) p (c .words) ∙ simp (b, s))
+    ∙ ap (λ (x : Progress). x .frame) (n .1) ∙ frame-next (c .header) p (c .words) ∙ simp b
+
+pub picture-kept : (p : Progress) (cs : List Command) (q : Progress) → Run p cs q → p .stage .pictured ≡ true → q .picture ≡ p .picture
+picture-kept p [] q r s = ap (λ (x : Progress). x .picture) (sym r)
+picture-kept p (c ∷ cs) q r s =
+    let n = goes-on (c .header) p (c .words) (r .0) (r .1) in
+    let b = picture-once (c .header) p (c .words) (n .0) s in
+    picture-kept (r .0) cs q (r .2) (ap (λ (x : Progress). x .stage .pictured) (n .1) ∙ pictured-next (c .header) p (c .words) ∙ simp (b, s))
+    ∙ ap (λ (x : Progress). x .picture) (n .1) ∙ picture-next (c .header) p (c .words) ∙ simp b
+
+-- The k-th MACROBLOCK of the list stands at column k mod W, row k div W, with the W of the list's PICTURE.
+pub run-order : (p : Progress) (cs : List Command) (q : Progress) → Run p cs q → Sound p → InOrder (q .picture .grid .columns) (countOf p) (macroblocksIn cs)
+unfolding macroblocksIn
+run-order p [] q r s = tt
+run-order p (c ∷ cs) q r s =
+    let t = next-sound p c (r .0) (r .1) s in
+    by (run-order (r .0) cs q (r .2) (t .0)) (begins Macroblock (c .header)) refl (t .1)
+  where
+    n : (judged (rulesOf (c .header) p (c .words)) ≡ Accepted) × (r .0 ≡ nextOf (c .header) p (c .words))
+    n = goes-on (c .header) p (c .words) (r .0) (r .1)
+
+    by : InOrder (q .picture .grid .columns) (countOf (r .0)) (macroblocksIn cs) → (b : Bool) → begins Macroblock (c .header) ≡ b → countOf (r .0) ≡ countOf p + flag b
+        → InOrder (q .picture .grid .columns) (countOf p) (cond b (c .words ∷ macroblocksIn cs) (macroblocksIn cs))
+    by rest true e k =
+        let a = macroblock-rules (c .header) p (c .words) e (n .0) in
+        let pictured = s .group-pictured (in-group p (c .words) a) in
+        let same = picture-kept p (c ∷ cs) q r pictured in
+        let at = position-of (p .picture .grid .columns) (p .position) (s .in-row pictured) in
+        let own = own-position p (c .words) a in (
+          own .0 ∙ sym (at .0) ∙ ap (λ x. countOf p % x .grid .columns) (sym same),
+          own .1 ∙ sym (at .1) ∙ ap (λ x. countOf p / x .grid .columns) (sym same),
+          rw k at rest,
+        )
+    by rest false e k = rw (k ∙ add-zero (countOf p)) at rest
+
+-- the k-th of macroblocks in order
+pub in-order-at : (w j : ℕ) (ms : List (List ℕ)) (k : ℕ) → InOrder w j ms → k < length ms
+    → (macroblockOf (getD ms k []) .column ≡ (j + k) % w) × (macroblockOf (getD ms k []) .row ≡ (j + k) / w)
+in-order-at w j [] k o l = absurd (omega arith)
+in-order-at w j (m ∷ ms) zero o l = rw (add-zero j) (o .0, o .1)
+in-order-at w j (m ∷ ms) (suc k) o l =
+    let e : j + suc k ≡ j + 1 + k = omega arith in
+    rw e (in-order-at w (j + 1) ms k (o .2) (omega arith))
+
+-- What the list of commands says of a walk that was not refused.
+pub record Listed (ws : List ℕ) (p : Progress) : Type 0 where
+  pub count : countOf p ≡ length (macroblocksIn (commandsOf ws))
+  pub order : (k : ℕ) → k < length (macroblocksIn (commandsOf ws))
+      → (macroblockOf (getD (macroblocksIn (commandsOf ws)) k []) .column ≡ k % pictureIn ws .grid .columns)
+      × (macroblockOf (getD (macroblocksIn (commandsOf ws)) k []) .row ≡ k / pictureIn ws .grid .columns)
+  pub frame : p .frame ≡ frameOf ws
+  pub picture : p .picture ≡ pictureIn ws
+  pub surfaces : howMany Surface (commandsOf ws) ≤ 1
+  pub pictures : howMany Picture (commandsOf ws) ≤ 1
+  pub full : p .stage .ended ≡ true → length (macroblocksIn (commandsOf ws)) ≡ pictureIn ws .grid .rows * pictureIn ws .grid .columns
+
+nothing-yet : countOf fresh ≡ 0
+unfolding fresh
+nothing-yet = refl
+
+pub listed : (ws : List ℕ) (at : ℕ) (p : Progress) (g : List ℕ) → foldl step start ws ≡ going at p g → Listed ws p
+listed ws at p g e =
+    let r = batch-runs ws at p g e in
+    let cs = commandsOf ws in
+    let none = nothing-yet in
+    let count : countOf p ≡ length (macroblocksIn cs) = run-count fresh cs p r fresh-sound ∙ ap (λ (n : ℕ). n + length (macroblocksIn cs)) none ∙ zero-add (length (macroblocksIn cs)) in
+    let picture = run-picture fresh cs p r in
+    let order = rw (none, picture) at (run-order fresh cs p r fresh-sound) in
+    record {
+      count = count;
+      order = λ k l. rw (zero-add k) at (in-order-at (pictureIn ws .grid .columns) 0 (macroblocksIn cs) k order l);
+      frame = run-frame fresh cs p r;
+      picture = picture;
+      surfaces = let h = one-surface fresh cs p r in within-one (flag (fresh .stage .surfaced)) (howMany Surface cs) h;
+      pictures = let h = one-picture fresh cs p r in within-one (flag (fresh .stage .pictured)) (howMany Picture cs) h;
+      full = λ t. sym count ∙ all-come p (run-sound fresh cs p r fresh-sound) t ∙ ap (λ x. x .grid .rows * x .grid .columns) picture;
+    }
+  where
+    within-one : (m n : ℕ) → m + n ≤ 1 → n ≤ 1
+    within-one m n l = omega arith

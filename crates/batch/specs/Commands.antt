@@ -1,0 +1,70 @@
+-- The commands of a batch: its words cut by their headers alone.
+use Prim.Native.Nat.{ℕ, _+_, _/_, _%_}
+use mathlib.Core.Bool.{cond}
+use mathlib.Core.List.{List, [], _∷_, _++_}
+use mathlib.Core.Path.{_≡_}
+use lib.Dec.{eqb, ltb}
+use lib.ListN.{length}
+use Rattle.command.specs.Headers.{headerOf, wordsIn, begins}
+use Rattle.command.specs.Macroblocks.{wordAt, macroblockOf}
+use Rattle.command.specs.declared.Header.{Header}
+use Rattle.command.specs.declared.Opcode.{Opcode}
+use Rattle.command.specs.declared.Opcode.the-variants.{Surface, Picture, Macroblock}
+use Rattle.picture.specs.Pictures.{pictureOf}
+use Rattle.picture.specs.Surfaces.{surfaceOf}
+use Rattle.picture.specs.declared.Frame as frames
+use Rattle.picture.specs.declared.Picture as pictures
+use Rattle.progress.specs.Progress.{fresh}
+
+-- A command: the place of its header, what that begins, and its words.
+pub record Command : Type 0 where
+  pub place : ℕ
+  pub header : Header
+  pub words : List ℕ
+
+abbrev command : ℕ → Header → List ℕ → Command
+command at h ws = record { place = at; header = h; words = ws }
+
+-- The commands of words, after the words `g` of a command that begins at `at`: words are gathered until they are as many as the
+-- first of them says. Cutting ends at a word that names no command; a last command that is not whole is none.
+unfoldable pub cut : ℕ → List ℕ → List ℕ → List Command
+cut at g [] = []
+cut at g (w ∷ ws) =
+    cond (eqb (wordsIn (headerOf (wordAt (g ++ (w ∷ [])) 0))) 0) []
+    (cond (ltb (length (g ++ (w ∷ []))) (wordsIn (headerOf (wordAt (g ++ (w ∷ [])) 0))))
+    (cut at (g ++ (w ∷ [])) ws)
+    (command at (headerOf (wordAt (g ++ (w ∷ [])) 0)) (g ++ (w ∷ [])) ∷ cut (at + length (g ++ (w ∷ []))) [] ws))
+
+-- The commands of a batch.
+unfoldable pub commandsOf : List ℕ → List Command
+commandsOf ws = cut 0 [] ws
+
+-- The words of its MACROBLOCK commands, in order.
+unfoldable pub macroblocksIn : List Command → List (List ℕ)
+macroblocksIn [] = []
+macroblocksIn (c ∷ cs) = cond (begins Macroblock (c .header)) (c .words ∷ macroblocksIn cs) (macroblocksIn cs)
+
+-- What its SURFACE and its PICTURE say, or what was said before.
+unfoldable pub frameFrom : frames.Frame → List Command → frames.Frame
+frameFrom f [] = f
+frameFrom f (c ∷ cs) = frameFrom (cond (begins Surface (c .header)) (surfaceOf (c .words)) f) cs
+
+unfoldable pub pictureFrom : pictures.Picture → List Command → pictures.Picture
+pictureFrom x [] = x
+pictureFrom x (c ∷ cs) = pictureFrom (cond (begins Picture (c .header)) (pictureOf (c .words)) x) cs
+
+abbrev pub frameOf : List ℕ → frames.Frame
+frameOf ws = frameFrom (fresh .frame) (commandsOf ws)
+
+abbrev pub pictureIn : List ℕ → pictures.Picture
+pictureIn ws = pictureFrom (fresh .picture) (commandsOf ws)
+
+-- Document 01: "The k-th macroblock, from 0, is at column k mod W, row k div W." Of macroblocks in order, the first the k-th.
+abbrev pub InOrder : ℕ → ℕ → List (List ℕ) → Type 0
+InOrder w k [] = Unit {0}
+InOrder w k (m ∷ ms) = (macroblockOf m .column ≡ k % w) × (macroblockOf m .row ≡ k / w) × InOrder w (k + 1) ms
+
+-- How many commands of one kind there are.
+abbrev pub howMany : Opcode → List Command → ℕ
+howMany o [] = 0
+howMany o (c ∷ cs) = cond (begins o (c .header)) 1 0 + howMany o cs

@@ -1,0 +1,4 @@
+-- for the crates above
+pub mod Parts
+-- for this crate alone
+mod HeldLaws

@@ -1,0 +1,43 @@
+-- A batch in parts is answered as the whole batch.
+use mathlib.Core.List.{List, [], _∷_, foldl, foldl-append, flatten}
+use mathlib.Core.Path.{_≡_, sym, _∙_, ap}
+use Prim.Native.Nat.{ℕ}
+use Rattle.batch.specs.Reports.{numberOf, placeOf, reportedOf, finish, report}
+use Rattle.batch.specs.Walk.{Walk, step}
+use Rattle.batch.specs.declared.Lengths.{Lengths}
+use Rattle.batch.specs.declared.Report.{Report}
+use Rattle.parts.specs.States.{walkIn, Answered, Along, HandedOver}
+use Rattle.parts.specs.declared.State.{State}
+
+-- the walk over all words of the parts, and the same lengths
+along : (s : State) (parts : List (List ℕ)) (r : State) → Along s parts r
+    → (walkIn r ≡ foldl step (walkIn s) (flatten parts)) × (r .lengths ≡ s .lengths)
+unfolding flatten
+along s [] r e = (ap walkIn (sym e), ap (λ (x : State). x .lengths) (sym e))
+along s (part ∷ parts) r h =
+    let t = h .0 in
+    let rest = along t parts r (h .2) in (
+      rest .0
+          ∙ ap (λ (w : Walk). foldl step w (flatten parts)) (h .1 .0)
+          ∙ sym (foldl-append step (walkIn s) part (flatten parts)),
+      rest .1 ∙ h .1 .1,
+    )
+
+-- Document 01's claim on lists of parts: what is answered when a batch is handed over in parts is the answer to the whole batch,
+-- in number, place and lengths. For all lengths, all lists of parts (the empty list, empty parts, parts after a fault, more than
+-- 4294967295 words in all), and every state so handed over.
+pub parts-whole : (l : Lengths) (parts : List (List ℕ)) (s : State) (r : Report) → HandedOver l parts s → Answered s r
+    → r ≡ report l (flatten parts)
+unfolding report
+parts-whole l parts s r h answered =
+    let begun = h .1 in
+    let rest = along (h .0) parts s (h .2) in
+    answered
+    ∙ ap (λ (k : Lengths). finish k (walkIn s)) (rest .1 ∙ begun .1)
+    ∙ ap (finish l) (rest .0 ∙ ap (λ (w : Walk). foldl step w (flatten parts)) (begun .0))
+
+-- The same of document 01's number, place and lengths.
+pub parts-reported : (l : Lengths) (parts : List (List ℕ)) (s : State) (r : Report) → HandedOver l parts s → Answered s r
+    → let whole = report l (flatten parts) in
+    (numberOf r ≡ numberOf whole) × ((placeOf r ≡ placeOf whole) × (reportedOf r ≡ reportedOf whole))
+parts-reported l parts s r h a = let e = parts-whole l parts s r h a in (ap numberOf e, (ap placeOf e, ap reportedOf e))
