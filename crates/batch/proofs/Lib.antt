@@ -3,4 +3,5 @@ pub mod CommandList
 pub mod Runs
 pub mod WalkLaws
 -- for this crate alone
+mod Cases
 mod Turns

@@ -1,0 +1,65 @@
+// Runs the stored batches through the checker and prints a line for each. A case on standard input, all numbers little-endian:
+//   0 how many words (4 bytes), 4 the lengths of the four buffers (8 each), 36 the words (4 each)
+// Each batch is checked whole, in two parts at every cut, and word by word. rust/reference writes the cases and the lines that
+// are due.
+mod comparing;
+mod input;
+mod printing;
+
+use batch::Lengths;
+use input::Head;
+use libc::STDOUT_FILENO;
+ghost use mathlib.Core.Path.{_≡_};
+ghost use lib.ListN.{length};
+
+// Prints the line of a batch. Where an answer in parts is another, more stands behind it, so that the line is not the one due.
+fn print_line(words: &[u32], lengths: Lengths) {
+    let whole = batch::check(words, lengths);
+    printing::print_report(whole);
+    comparing::compare(words, lengths, whole);
+    io::write_all(STDOUT_FILENO, b"\n");
+}
+
+// Ends the run at input that is no case.
+fn bad_input() -> bool {
+    io::write_all(STDOUT_FILENO, b"bad input\n");
+    false
+}
+
+// Runs a case whose words are next, into this room that they fill, and answers whether they were there.
+fn run_case(room: &mut [u32], lengths: Lengths) -> bool {
+    if !input::read_words(room) {
+        return bad_input();
+    }
+    print_line(room, lengths);
+    true
+}
+
+// Runs the next case, with room for the words of any, and answers whether there was one.
+fn next_case(room: &mut [u32]) -> bool {
+    match input::read_head() {
+        Head::End => false,
+        Head::Bad => bad_input(),
+        Head::Case(n, lengths) => {
+            if room.len() < n {
+                return bad_input();
+            }
+            run_case(&mut room[..n], lengths)
+        }
+    }
+}
+
+// Room for the longest stored batch. A call, so that no proof meets 2000 zeros.
+fn most_words() -> [u32; 2000]
+    ensures { λ r. ⌜ 2000 ≡ length r ⌝ }
+{
+    [0u32; 2000]
+}
+
+fn main() {
+    let mut room = most_words();
+    let mut left: u32 = 100000;
+    while left > 0 && next_case(&mut room) {
+        left -= 1;
+    }
+}
