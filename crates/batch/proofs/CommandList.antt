@@ -10,34 +10,92 @@ use Rattle.answers.specs.Answers.{judged}
 use Rattle.answers.specs.declared.Answer.the-variants.{Accepted}
 use Rattle.command.specs.Headers.{begins}
 use Rattle.command.specs.Macroblocks.{macroblockOf}
+use Rattle.command.specs.declared.Header.{Header}
+use Rattle.command.specs.declared.Opcode.{Opcode}
 use Rattle.command.specs.declared.Opcode.the-variants.{Surface, Picture, Macroblock}
+use Rattle.picture.specs.Pictures.{pictureOf}
+use Rattle.picture.specs.Surfaces.{surfaceOf}
 use Rattle.progress.specs.Progress.{fresh}
 use Rattle.progress.specs.declared.Progress.{Progress}
 use Rattle.progress.specs.declared.Verdict.the-variants.{Next}
 use Rattle.macroblocks.proofs.PositionLaws.{own-position, in-group, position-of}
 use Rattle.judging.specs.Judging.{rulesOf, nextOf, judge}
 use Rattle.judging.proofs.JudgingLaws.{goes-on}
-use Rattle.judging.proofs.SequenceLaws.{macroblock-rules, all-come, surfaced-next, pictured-next, frame-next, picture-next, surface-once, picture-once, Sound, fresh-sound, countOf, sound-next}
-use Rattle.batch.specs.Commands.{Command, commandsOf, macroblocksIn, frameFrom, pictureFrom, frameOf, pictureIn, InOrder, howMany}
+use Rattle.judging.proofs.SequenceLaws.{macroblock-rules, all-come, said-next, surface-once, picture-once, Sound, fresh-sound, countOf, sound-next}
+use Rattle.batch.specs.Commands.{Command, commandsOf, macroblocksIn, lastSaid, frameOf, pictureIn, InOrder, howMany}
 use Rattle.batch.specs.Walk.{going, step, start}
 use Rattle.batch.proofs.Runs.{no, Run, batch-runs}
 
--- The frame and the picture are what the list's SURFACE and PICTURE say.
-pub run-frame : (p : Progress) (cs : List Command) (q : Progress) → Run p cs q → q .frame ≡ frameFrom (p .frame) cs
-unfolding frameFrom
-run-frame p [] q r = ap (λ (x : Progress). x .frame) (sym r)
-run-frame p (c ∷ cs) q r =
-    let n = goes-on (c .header) p (c .words) (r .0) (r .1) in
-    run-frame (r .0) cs q (r .2)
-    ∙ ap (λ f. frameFrom f cs) (ap (λ (x : Progress). x .frame) (n .1) ∙ frame-next (c .header) p (c .words))
+-- A command that comes once and says something, as SURFACE and PICTURE do: how to read it off a progress, and what one command
+-- changes of it.
+pub record Once {A : Type 0} (o : Opcode) (says : List ℕ → A) (said : Progress → A) (come : Progress → Bool) : Type 0 where
+  pub said-after : (h : Header) (p : Progress) (ws : List ℕ) → said (nextOf h p ws) ≡ cond (begins o h) (says ws) (said p)
+  pub come-after : (h : Header) (p : Progress) (ws : List ℕ) → come (nextOf h p ws) ≡ cond (begins o h) true (come p)
+  pub not-again : (h : Header) (p : Progress) (ws : List ℕ) → judged (rulesOf h p ws) ≡ Accepted → come p ≡ true → begins o h ≡ false
 
-pub run-picture : (p : Progress) (cs : List Command) (q : Progress) → Run p cs q → q .picture ≡ pictureFrom (p .picture) cs
-unfolding pictureFrom
-run-picture p [] q r = ap (λ (x : Progress). x .picture) (sym r)
-run-picture p (c ∷ cs) q r =
-    let n = goes-on (c .header) p (c .words) (r .0) (r .1) in
-    run-picture (r .0) cs q (r .2)
-    ∙ ap (λ x. pictureFrom x cs) (ap (λ (x : Progress). x .picture) (n .1) ∙ picture-next (c .header) p (c .words))
+pub surfaces-once : Once Surface surfaceOf (λ p. p .frame) (λ p. p .stage .surfaced)
+surfaces-once =
+    record {
+      said-after = λ h p ws. said-next h p ws .frame-said;
+      come-after = λ h p ws. said-next h p ws .surface-come;
+      not-again = surface-once;
+    }
+
+pub pictures-once : Once Picture pictureOf (λ p. p .picture) (λ p. p .stage .pictured)
+pictures-once =
+    record {
+      said-after = λ h p ws. said-next h p ws .picture-said;
+      come-after = λ h p ws. said-next h p ws .picture-come;
+      not-again = picture-once;
+    }
+
+abbrev flag : Bool → ℕ
+flag b = cond b 1 0
+
+at-most : (b : Bool) → flag b + 0 ≤ 1
+at-most true = omega arith
+at-most false = omega arith
+
+counted-once : (before now b : Bool) (n : ℕ) → (before ≡ true → b ≡ false) → now ≡ cond b true before → flag now + n ≤ 1 → flag before + (flag b + n) ≤ 1
+counted-once true now true n h e l = absurd (no (h refl))
+counted-once true now false n h e l = let k : 1 + n ≤ 1 = rw e at l in omega arith
+counted-once false now true n h e l = let k : 1 + n ≤ 1 = rw e at l in omega arith
+counted-once false now false n h e l = let k : 0 + n ≤ 1 = rw e at l in omega arith
+
+module _ {A : Type 0} (o : Opcode) (says : List ℕ → A) (said : Progress → A) (come : Progress → Bool) (once : Once o says said come) where
+  -- what is said is what the list's command says
+  pub run-said : (p : Progress) (cs : List Command) (q : Progress) → Run p cs q → said q ≡ lastSaid o says (said p) cs
+  unfolding lastSaid
+  run-said p [] q r = ap said (sym r)
+  run-said p (c ∷ cs) q r =
+      let n = goes-on (c .header) p (c .words) (r .0) (r .1) in
+      run-said (r .0) cs q (r .2)
+      ∙ ap (λ (x : A). lastSaid o says x cs) (ap said (n .1) ∙ once .said-after (c .header) p (c .words))
+
+  -- the list has at most one
+  pub run-once : (p : Progress) (cs : List Command) (q : Progress) → Run p cs q → flag (come p) + howMany o cs ≤ 1
+  run-once p [] q r = at-most (come p)
+  run-once p (c ∷ cs) q r =
+      let n = goes-on (c .header) p (c .words) (r .0) (r .1) in
+      counted-once (come p) (come (r .0)) (begins o (c .header)) (howMany o cs)
+      (once .not-again (c .header) p (c .words) (n .0))
+      (ap come (n .1) ∙ once .come-after (c .header) p (c .words))
+      (run-once (r .0) cs q (r .2))
+
+  -- once it has come, what is said stays
+  pub said-kept : (p : Progress) (cs : List Command) (q : Progress) → Run p cs q → come p ≡ true → said q ≡ said p
+  said-kept p [] q r s = ap said (sym r)
+  said-kept p (c ∷ cs) q r s =
+      let n = goes-on (c .header) p (c .words) (r .0) (r .1) in
+      let b = once .not-again (c .header) p (c .words) (n .0) s in
+      said-kept (r .0) cs q (r .2) (ap come (n .1) ∙ once .come-after (c .header) p (c .words) ∙ simp (b, s))
+      ∙ ap said (n .1) ∙ once .said-after (c .header) p (c .words) ∙ simp b
+
+pub frame-kept : (p : Progress) (cs : List Command) (q : Progress) → Run p cs q → p .stage .surfaced ≡ true → q .frame ≡ p .frame
+frame-kept = said-kept Surface surfaceOf (λ p. p .frame) (λ p. p .stage .surfaced) surfaces-once
+
+pub picture-kept : (p : Progress) (cs : List Command) (q : Progress) → Run p cs q → p .stage .pictured ≡ true → q .picture ≡ p .picture
+picture-kept = said-kept Picture pictureOf (λ p. p .picture) (λ p. p .stage .pictured) pictures-once
 
 -- Every progress on the way is sound, and the count is that of the list's MACROBLOCK commands.
 next-sound : (p : Progress) (c : Command) (t : Progress) → judge (c .header) p (c .words) ≡ Next t → Sound p
@@ -61,59 +119,6 @@ run-count p (c ∷ cs) q r s =
     by : (b : Bool) → countOf p + cond b 1 0 + length (macroblocksIn cs) ≡ countOf p + length (cond b (c .words ∷ macroblocksIn cs) (macroblocksIn cs))
     by true = omega arith
     by false = omega arith
-
--- Once they have come, SURFACE and PICTURE stay: the list has at most one of each.
-abbrev flag : Bool → ℕ
-flag b = cond b 1 0
-
-once : (before now : Bool) (b : Bool) (n : ℕ) → (before ≡ true → b ≡ false) → now ≡ cond b true before → flag now + n ≤ 1 → flag before + (flag b + n) ≤ 1
-once true now true n h e l = absurd (no (h refl))
-once true now false n h e l = let k : 1 + n ≤ 1 = rw e at l in omega arith
-once false now true n h e l = let k : 1 + n ≤ 1 = rw e at l in omega arith
-once false now false n h e l = let k : 0 + n ≤ 1 = rw e at l in omega arith
-
-pub one-surface : (p : Progress) (cs : List Command) (q : Progress) → Run p cs q → flag (p .stage .surfaced) + howMany Surface cs ≤ 1
-one-surface p [] q r = at-most (p .stage .surfaced)
-  where
-    at-most : (b : Bool) → flag b + 0 ≤ 1
-    at-most true = omega arith
-    at-most false = omega arith
-one-surface p (c ∷ cs) q r =
-    let n = goes-on (c .header) p (c .words) (r .0) (r .1) in
-    once (p .stage .surfaced) (r .0 .stage .surfaced) (begins Surface (c .header)) (howMany Surface cs)
-    (surface-once (c .header) p (c .words) (n .0))
-    (ap (λ (x : Progress). x .stage .surfaced) (n .1) ∙ surfaced-next (c .header) p (c .words))
-    (one-surface (r .0) cs q (r .2))
-
-pub one-picture : (p : Progress) (cs : List Command) (q : Progress) → Run p cs q → flag (p .stage .pictured) + howMany Picture cs ≤ 1
-one-picture p [] q r = at-most (p .stage .pictured)
-  where
-    at-most : (b : Bool) → flag b + 0 ≤ 1
-    at-most true = omega arith
-    at-most false = omega arith
-one-picture p (c ∷ cs) q r =
-    let n = goes-on (c .header) p (c .words) (r .0) (r .1) in
-    once (p .stage .pictured) (r .0 .stage .pictured) (begins Picture (c .header)) (howMany Picture cs)
-    (picture-once (c .header) p (c .words) (n .0))
-    (ap (λ (x : Progress). x .stage .pictured) (n .1) ∙ pictured-next (c .header) p (c .words))
-    (one-picture (r .0) cs q (r .2))
-
--- From then on the frame and the picture are the same.
-pub frame-kept : (p : Progress) (cs : List Command) (q : Progress) → Run p cs q → p .stage .surfaced ≡ true → q .frame ≡ p .frame
-frame-kept p [] q r s = ap (λ (x : Progress). x .frame) (sym r)
-frame-kept p (c ∷ cs) q r s =
-    let n = goes-on (c .header) p (c .words) (r .0) (r .1) in
-    let b = surface-once (c .header) p (c .words) (n .0) s in
-    frame-kept (r .0) cs q (r .2) (ap (λ (x : Progress). x .stage .surfaced) (n .1) ∙ surfaced-next (c .header) p (c .words) ∙ simp (b, s))
-    ∙ ap (λ (x : Progress). x .frame) (n .1) ∙ frame-next (c .header) p (c .words) ∙ simp b
-
-pub picture-kept : (p : Progress) (cs : List Command) (q : Progress) → Run p cs q → p .stage .pictured ≡ true → q .picture ≡ p .picture
-picture-kept p [] q r s = ap (λ (x : Progress). x .picture) (sym r)
-picture-kept p (c ∷ cs) q r s =
-    let n = goes-on (c .header) p (c .words) (r .0) (r .1) in
-    let b = picture-once (c .header) p (c .words) (n .0) s in
-    picture-kept (r .0) cs q (r .2) (ap (λ (x : Progress). x .stage .pictured) (n .1) ∙ pictured-next (c .header) p (c .words) ∙ simp (b, s))
-    ∙ ap (λ (x : Progress). x .picture) (n .1) ∙ picture-next (c .header) p (c .words) ∙ simp b
 
 -- The k-th MACROBLOCK of the list stands at column k mod W, row k div W, with the W of the list's PICTURE.
 pub run-order : (p : Progress) (cs : List Command) (q : Progress) → Run p cs q → Sound p → InOrder (q .picture .grid .columns) (countOf p) (macroblocksIn cs)
@@ -171,15 +176,15 @@ listed ws at p g e =
     let cs = commandsOf ws in
     let none = nothing-yet in
     let count : countOf p ≡ length (macroblocksIn cs) = run-count fresh cs p r fresh-sound ∙ ap (λ (n : ℕ). n + length (macroblocksIn cs)) none ∙ zero-add (length (macroblocksIn cs)) in
-    let picture = run-picture fresh cs p r in
+    let picture = run-said Picture pictureOf (λ p. p .picture) (λ p. p .stage .pictured) pictures-once fresh cs p r in
     let order = rw (none, picture) at (run-order fresh cs p r fresh-sound) in
     record {
       count = count;
       order = λ k l. rw (zero-add k) at (in-order-at (pictureIn ws .grid .columns) 0 (macroblocksIn cs) k order l);
-      frame = run-frame fresh cs p r;
+      frame = run-said Surface surfaceOf (λ p. p .frame) (λ p. p .stage .surfaced) surfaces-once fresh cs p r;
       picture = picture;
-      surfaces = let h = one-surface fresh cs p r in within-one (flag (fresh .stage .surfaced)) (howMany Surface cs) h;
-      pictures = let h = one-picture fresh cs p r in within-one (flag (fresh .stage .pictured)) (howMany Picture cs) h;
+      surfaces = let h = run-once Surface surfaceOf (λ p. p .frame) (λ p. p .stage .surfaced) surfaces-once fresh cs p r in within-one (flag (fresh .stage .surfaced)) (howMany Surface cs) h;
+      pictures = let h = run-once Picture pictureOf (λ p. p .picture) (λ p. p .stage .pictured) pictures-once fresh cs p r in within-one (flag (fresh .stage .pictured)) (howMany Picture cs) h;
       full = λ t. sym count ∙ all-come p (run-sound fresh cs p r fresh-sound) t ∙ ap (λ x. x .grid .rows * x .grid .columns) picture;
     }
   where

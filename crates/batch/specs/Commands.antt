@@ -44,20 +44,17 @@ unfoldable pub macroblocksIn : List Command → List (List ℕ)
 macroblocksIn [] = []
 macroblocksIn (c ∷ cs) = cond (begins Macroblock (c .header)) (c .words ∷ macroblocksIn cs) (macroblocksIn cs)
 
--- What its SURFACE and its PICTURE say, or what was said before.
-unfoldable pub frameFrom : frames.Frame → List Command → frames.Frame
-frameFrom f [] = f
-frameFrom f (c ∷ cs) = frameFrom (cond (begins Surface (c .header)) (surfaceOf (c .words)) f) cs
+-- What commands of one kind say: the last of them, or what was said before.
+unfoldable pub lastSaid : {A : Type 0} → Opcode → (List ℕ → A) → A → List Command → A
+lastSaid o says before [] = before
+lastSaid o says before (c ∷ cs) = lastSaid o says (cond (begins o (c .header)) (says (c .words)) before) cs
 
-unfoldable pub pictureFrom : pictures.Picture → List Command → pictures.Picture
-pictureFrom x [] = x
-pictureFrom x (c ∷ cs) = pictureFrom (cond (begins Picture (c .header)) (pictureOf (c .words)) x) cs
-
+-- The batch's surface and picture: what its SURFACE and its PICTURE say.
 abbrev pub frameOf : List ℕ → frames.Frame
-frameOf ws = frameFrom (fresh .frame) (commandsOf ws)
+frameOf ws = lastSaid Surface surfaceOf (fresh .frame) (commandsOf ws)
 
 abbrev pub pictureIn : List ℕ → pictures.Picture
-pictureIn ws = pictureFrom (fresh .picture) (commandsOf ws)
+pictureIn ws = lastSaid Picture pictureOf (fresh .picture) (commandsOf ws)
 
 -- Document 01: "The k-th macroblock, from 0, is at column k mod W, row k div W." Of macroblocks in order, the first the k-th.
 abbrev pub InOrder : ℕ → ℕ → List (List ℕ) → Type 0

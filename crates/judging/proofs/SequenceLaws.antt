@@ -1,7 +1,7 @@
 -- What each command that is not refused leaves as it was, and what holds of every progress that commands lead to.
 use mathlib.Core.Bool.{Bool, true, false, cond, not, _&&_}
 use mathlib.Core.List.{List}
-use mathlib.Core.Logic.{inl, inr, ⊎-elim}
+use mathlib.Core.Logic.{inl, ⊎-elim}
 use mathlib.Core.Path.{_≡_, refl, sym, ap, subst, _∙_}
 use Prim.Native.Nat.{ℕ, _+_, _*_, _≤_, _<_}
 use native.Mathlib.Nat.{add-zero, zero-mul}
@@ -29,54 +29,29 @@ use Rattle.macroblocks.proofs.PositionLaws.{Reached, next-reached, Advances, ad
 use Rattle.judging.specs.Sequence.{surfaceNext, pictureNext, groupNext, endNext}
 use Rattle.judging.specs.Judging.{rulesOf, nextOf, judge}
 
--- The frame and the picture are those of the last SURFACE and the last PICTURE.
-pub frame-next : (h : Header) (p : Progress) (ws : List ℕ) → nextOf h p ws .frame ≡ cond (begins Surface h) (surfaceOf ws) (p .frame)
-unfolding nextOf surfaceNext pictureNext groupNext endNext
-frame-next (Known Noop n) p ws = refl
-frame-next (Known End n) p ws = refl
-frame-next (Known Surface n) p ws = refl
-frame-next (Known Picture n) p ws = refl
-frame-next (Known SliceGroup n) p ws = refl
-frame-next (Known Macroblock n) p ws = advances p ws .frame-stays
-frame-next (Carried n) p ws = refl
-frame-next Unknown p ws = refl
+-- What a command says of the surface and the picture: SURFACE and PICTURE their own, the others what was said before.
+pub record Said (h : Header) (p q : Progress) (ws : List ℕ) : Type 0 where
+  pub frame-said : q .frame ≡ cond (begins Surface h) (surfaceOf ws) (p .frame)
+  pub picture-said : q .picture ≡ cond (begins Picture h) (pictureOf ws) (p .picture)
+  pub surface-come : q .stage .surfaced ≡ cond (begins Surface h) true (p .stage .surfaced)
+  pub picture-come : q .stage .pictured ≡ cond (begins Picture h) true (p .stage .pictured)
 
-pub picture-next : (h : Header) (p : Progress) (ws : List ℕ) → nextOf h p ws .picture ≡ cond (begins Picture h) (pictureOf ws) (p .picture)
+pub said-next : (h : Header) (p : Progress) (ws : List ℕ) → Said h p (nextOf h p ws) ws
 unfolding nextOf surfaceNext pictureNext groupNext endNext
-picture-next (Known Noop n) p ws = refl
-picture-next (Known End n) p ws = refl
-picture-next (Known Surface n) p ws = refl
-picture-next (Known Picture n) p ws = refl
-picture-next (Known SliceGroup n) p ws = refl
-picture-next (Known Macroblock n) p ws = advances p ws .picture-stays
-picture-next (Carried n) p ws = refl
-picture-next Unknown p ws = refl
+said-next (Known Noop n) p ws = record { frame-said = refl; picture-said = refl; surface-come = refl; picture-come = refl }
+said-next (Known End n) p ws = record { frame-said = refl; picture-said = refl; surface-come = refl; picture-come = refl }
+said-next (Known Surface n) p ws = record { frame-said = refl; picture-said = refl; surface-come = refl; picture-come = refl }
+said-next (Known Picture n) p ws = record { frame-said = refl; picture-said = refl; surface-come = refl; picture-come = refl }
+said-next (Known SliceGroup n) p ws = record { frame-said = refl; picture-said = refl; surface-come = refl; picture-come = refl }
+said-next (Known Macroblock n) p ws =
+    let a = advances p ws in
+    record { frame-said = a .frame-stays; picture-said = a .picture-stays; surface-come = a .surfaced-stays; picture-come = a .pictured-stays }
+said-next (Carried n) p ws = record { frame-said = refl; picture-said = refl; surface-come = refl; picture-come = refl }
+said-next Unknown p ws = record { frame-said = refl; picture-said = refl; surface-come = refl; picture-come = refl }
 
 -- Once SURFACE has come, no other is accepted, and likewise PICTURE.
 no : false ≡ true → ⊥
 no e = subst T (sym e) tt
-
-pub surfaced-next : (h : Header) (p : Progress) (ws : List ℕ) → nextOf h p ws .stage .surfaced ≡ cond (begins Surface h) true (p .stage .surfaced)
-unfolding nextOf surfaceNext pictureNext groupNext endNext
-surfaced-next (Known Noop n) p ws = refl
-surfaced-next (Known End n) p ws = refl
-surfaced-next (Known Surface n) p ws = refl
-surfaced-next (Known Picture n) p ws = refl
-surfaced-next (Known SliceGroup n) p ws = refl
-surfaced-next (Known Macroblock n) p ws = advances p ws .surfaced-stays
-surfaced-next (Carried n) p ws = refl
-surfaced-next Unknown p ws = refl
-
-pub pictured-next : (h : Header) (p : Progress) (ws : List ℕ) → nextOf h p ws .stage .pictured ≡ cond (begins Picture h) true (p .stage .pictured)
-unfolding nextOf surfaceNext pictureNext groupNext endNext
-pictured-next (Known Noop n) p ws = refl
-pictured-next (Known End n) p ws = refl
-pictured-next (Known Surface n) p ws = refl
-pictured-next (Known Picture n) p ws = refl
-pictured-next (Known SliceGroup n) p ws = refl
-pictured-next (Known Macroblock n) p ws = advances p ws .pictured-stays
-pictured-next (Carried n) p ws = refl
-pictured-next Unknown p ws = refl
 
 pub surface-once : (h : Header) (p : Progress) (ws : List ℕ) → judged (rulesOf h p ws) ≡ Accepted → p .stage .surfaced ≡ true → begins Surface h ≡ false
 unfolding rulesOf

@@ -43,7 +43,7 @@ repeats b kind ws =
 abbrev pub skipPermitted : ℕ → Previous → ℕ → List ℕ → Bool
 skipPermitted coding b kind ws = (not (eqb coding 2) || zeroVectors ws) && (not (eqb coding 3) || repeats b kind ws)
 
--- "The k-th macroblock, from 0, is at column k mod W, row k div W." The position counts them (proofs/Positions.antt of `judging`).
+-- "The k-th macroblock, from 0, is at column k mod W, row k div W." The position counts them: proofs/PositionLaws.antt.
 abbrev pub atPosition : Position → Macroblock → Bool
 atPosition at m = eqb (m .column) (at .column) && eqb (m .row) (at .row)
 

@@ -4,22 +4,16 @@ use Rattle.progress.specs.Progress.{concluded}
 use borrow.Author.Needs.{needs}
 use Rattle.judging.proofs.judging.conclude.Statement.{statement}
 use Rattle.judging.proofs.judging.conclude.Tie as tie
-use Rattle.judging.proofs.judging.conclude.Reads as reads
-use Rattle.judging.proofs.judging.conclude.Lts as lts
 
--- src/judging.rt:28:29
 enum-told : tie.Need-enum-told
 enum-told c = search needs
 
--- src/judging.rt:29:25
 enum-known-fault : tie.Need-enum-known-fault
 enum-known-fault c = search needs
 
--- src/judging.rt:24:1
 returns : tie.Need-returns
 returns c = ap (λ (a : Answer). concluded a (c .before .before .args .next)) (sym (c .enum-told .given .1))
 
--- src/judging.rt:24:1
 returns-2 : tie.Need-returns-2
 returns-2 c = ap (λ (a : Answer). concluded a (c .before .before .before .args .next)) (sym (c .before .fault .given .1))
 

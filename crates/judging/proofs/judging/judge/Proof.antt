@@ -12,15 +12,6 @@ use Rattle.judging.specs.Judging.{judge, rulesOf, nextOf}
 use borrow.Author.Needs.{needs}
 use Rattle.judging.proofs.judging.judge.Statement.{statement}
 use Rattle.judging.proofs.judging.judge.Tie as tie
-use Rattle.judging.proofs.judging.judge.Reads as reads
-use Rattle.judging.proofs.judging.judge.Lts as lts
-use Rattle.judging.proofs.judging.conclude.Reads as conclude-reads
-use Rattle.judging.proofs.judging.judge_end.Reads as judge-end-reads
-use Rattle.judging.proofs.judging.judge_group.Reads as judge-group-reads
-use Rattle.judging.proofs.judging.judge_picture.Reads as judge-picture-reads
-use Rattle.judging.proofs.judging.judge_surface.Reads as judge-surface-reads
-use Rattle.judging.proofs.judging.sequence_fault.Reads as sequence-fault-reads
-use Rattle.macroblocks.proofs.judge_macroblock.Reads as judge-macroblock-reads
 
 -- the header that was read, from what the matches told
 known : (p : Progress) (ws : List ℕ) {h : Header} {o q : Opcode} {n : ℕ} → h ≡ Known o n → o ≡ q → judge (Known q n) p ws ≡ judge h p ws
@@ -29,71 +20,54 @@ known p ws {h} {o} {q} {n} e f = ap (λ (x : Header). judge x p ws) (ap (λ (x :
 other : (p : Progress) (ws : List ℕ) {h g : Header} → h ≡ g → judge g p ws ≡ judge h p ws
 other p ws e = ap (λ (x : Header). judge x p ws) (sym e)
 
--- src/judging.rt:71:23
 enum-known-header : tie.Need-enum-known-header
 enum-known-header c = search needs
 
--- src/judging.rt:72:29
 enum-told : tie.Need-enum-told
 enum-told c = search needs
 
--- src/judging.rt:73:28
 enum-told-2 : tie.Need-enum-told-2
 enum-told-2 c = search needs
 
--- src/judging.rt:73:28
 judge-end-requires : tie.Need-judge-end-requires
 judge-end-requires c κs = search needs
 
--- src/judging.rt:74:32
 enum-told-3 : tie.Need-enum-told-3
 enum-told-3 c = search needs
 
--- src/judging.rt:74:32
 judge-surface-requires : tie.Need-judge-surface-requires
 judge-surface-requires c κs = search needs
 
--- src/judging.rt:75:32
 enum-told-4 : tie.Need-enum-told-4
 enum-told-4 c = search needs
 
--- src/judging.rt:75:32
 judge-picture-requires : tie.Need-judge-picture-requires
 judge-picture-requires c κs = search needs
 
--- src/judging.rt:76:35
 enum-told-5 : tie.Need-enum-told-5
 enum-told-5 c = search needs
 
--- src/judging.rt:76:35
 judge-group-requires : tie.Need-judge-group-requires
 judge-group-requires c κs = search needs
 
--- src/judging.rt:77:35
 enum-told-6 : tie.Need-enum-told-6
 enum-told-6 c = search needs
 
--- src/judging.rt:77:35
 judge-macroblock-requires : tie.Need-judge-macroblock-requires
 judge-macroblock-requires c κs = search needs
 
--- src/judging.rt:79:55
 enum-told-7 : tie.Need-enum-told-7
 enum-told-7 c = search needs
 
--- src/judging.rt:79:40
 sequence-fault-requires : tie.Need-sequence-fault-requires
 sequence-fault-requires c κs = search needs
 
--- src/judging.rt:79:31
 conclude-requires : tie.Need-conclude-requires
 conclude-requires c κs = search needs
 
--- src/judging.rt:80:28
 enum-told-8 : tie.Need-enum-told-8
 enum-told-8 c = search needs
 
--- src/judging.rt:67:1
 returns : tie.Need-returns
 unfolding judge rulesOf nextOf
 returns c =
@@ -101,7 +75,6 @@ returns c =
     let a = h .before .before .before .args in
     known (a .progress) (now (a .words)) (h .header .given .1) (c .enum-told .given .1)
 
--- src/judging.rt:67:1
 returns-2 : tie.Need-returns-2
 unfolding judge rulesOf nextOf
 returns-2 c =
@@ -109,7 +82,6 @@ returns-2 c =
     let a = h .before .before .before .args in
     c .judge-end .ensures ∙ known (a .progress) (now (a .words)) (h .header .given .1) (c .before .enum-told2 .given .1)
 
--- src/judging.rt:67:1
 returns-3 : tie.Need-returns-3
 unfolding judge rulesOf nextOf
 returns-3 c =
@@ -117,7 +89,6 @@ returns-3 c =
     let a = h .before .before .before .args in
     c .judge-surface .ensures ∙ known (a .progress) (now (a .words)) (h .header .given .1) (c .before .enum-told3 .given .1)
 
--- src/judging.rt:67:1
 returns-4 : tie.Need-returns-4
 unfolding judge rulesOf nextOf
 returns-4 c =
@@ -125,7 +96,6 @@ returns-4 c =
     let a = h .before .before .before .args in
     c .judge-picture .ensures ∙ known (a .progress) (now (a .words)) (h .header .given .1) (c .before .enum-told4 .given .1)
 
--- src/judging.rt:67:1
 returns-5 : tie.Need-returns-5
 unfolding judge rulesOf nextOf
 returns-5 c =
@@ -133,7 +103,6 @@ returns-5 c =
     let a = h .before .before .before .args in
     c .judge-group .ensures ∙ known (a .progress) (now (a .words)) (h .header .given .1) (c .before .enum-told5 .given .1)
 
--- src/judging.rt:67:1
 returns-6 : tie.Need-returns-6
 unfolding judge rulesOf nextOf
 returns-6 c =
@@ -141,7 +110,6 @@ returns-6 c =
     let a = h .before .before .before .args in
     c .judge-macroblock .ensures ∙ known (a .progress) (now (a .words)) (h .header .given .1) (c .before .enum-told6 .given .1)
 
--- src/judging.rt:67:1
 returns-7 : tie.Need-returns-7
 unfolding judge rulesOf nextOf
 returns-7 c =
@@ -149,7 +117,6 @@ returns-7 c =
     let a = h .before .before .before .args in
     c .conclude .ensures ∙ ap (λ (x : Answer). concluded x (a .progress)) (c .before .sequence-fault .ensures) ∙ other (a .progress) (now (a .words)) (h .enum-told7 .given .1)
 
--- src/judging.rt:67:1
 returns-8 : tie.Need-returns-8
 unfolding judge rulesOf nextOf
 returns-8 c =

@@ -4,25 +4,16 @@ use Rattle.judging.specs.Judging.{judge, rulesOf, nextOf}
 use borrow.Author.Needs.{needs}
 use Rattle.judging.proofs.judging.judge_group.Statement.{statement}
 use Rattle.judging.proofs.judging.judge_group.Tie as tie
-use Rattle.judging.proofs.judging.judge_group.Reads as reads
-use Rattle.judging.proofs.judging.judge_group.Lts as lts
-use Rattle.judging.proofs.judging.conclude.Reads as conclude-reads
-use Rattle.judging.proofs.judging.sequence_fault.Reads as sequence-fault-reads
-use Rattle.judging.proofs.sequence.group_next.Reads as group-next-reads
 
--- src/judging.rt:55:14
 sequence-fault-requires : tie.Need-sequence-fault-requires
 sequence-fault-requires c κs = search needs
 
--- src/judging.rt:55:41
 group-next-requires : tie.Need-group-next-requires
 group-next-requires c κs = search needs
 
--- src/judging.rt:55:5
 conclude-requires : tie.Need-conclude-requires
 conclude-requires c κs = search needs
 
--- src/judging.rt:50:1
 returns : tie.Need-returns
 unfolding judge rulesOf nextOf
 returns c = c .conclude .ensures ∙ ap₂ concluded (c .before .before .sequence-fault .ensures) (c .before .group-next .ensures)

@@ -10,40 +10,25 @@ use Rattle.judging.specs.Sequence.{picturePermitted, pictureNext}
 use borrow.Author.Needs.{needs}
 use Rattle.judging.proofs.judging.judge_picture.Statement.{statement}
 use Rattle.judging.proofs.judging.judge_picture.Tie as tie
-use Rattle.judging.proofs.judging.judge_picture.Reads as reads
-use Rattle.judging.proofs.judging.judge_picture.Lts as lts
-use Rattle.answers.proofs.earlier.Reads as earlier-reads
-use Rattle.judging.proofs.judging.conclude.Reads as conclude-reads
-use Rattle.judging.proofs.judging.sequence_fault.Reads as sequence-fault-reads
-use Rattle.judging.proofs.sequence.picture_next.Reads as picture-next-reads
-use Rattle.picture.proofs.picture_fault.Reads as picture-fault-reads
-use Rattle.picture.proofs.picture_of.Reads as picture-of-reads
 
--- src/judging.rt:46:34
 sequence-fault-requires : tie.Need-sequence-fault-requires
 sequence-fault-requires c κs = search needs
 
--- src/judging.rt:46:61
 picture-fault-requires : tie.Need-picture-fault-requires
 picture-fault-requires c κs = search needs
 
--- src/judging.rt:46:9
 earlier-requires : tie.Need-earlier-requires
 earlier-requires c κs = search needs
 
--- src/judging.rt:47:54
 picture-of-requires : tie.Need-picture-of-requires
 picture-of-requires c κs = search needs
 
--- src/judging.rt:47:21
 picture-next-requires : tie.Need-picture-next-requires
 picture-next-requires c κs = search needs
 
--- src/judging.rt:47:5
 conclude-requires : tie.Need-conclude-requires
 conclude-requires c κs = search needs
 
--- src/judging.rt:41:1
 returns : tie.Need-returns
 unfolding judge rulesOf nextOf
 returns c =

@@ -10,40 +10,25 @@ use Rattle.judging.specs.Sequence.{surfacePermitted, surfaceNext}
 use borrow.Author.Needs.{needs}
 use Rattle.judging.proofs.judging.judge_surface.Statement.{statement}
 use Rattle.judging.proofs.judging.judge_surface.Tie as tie
-use Rattle.judging.proofs.judging.judge_surface.Reads as reads
-use Rattle.judging.proofs.judging.judge_surface.Lts as lts
-use Rattle.answers.proofs.earlier.Reads as earlier-reads
-use Rattle.judging.proofs.judging.conclude.Reads as conclude-reads
-use Rattle.judging.proofs.judging.sequence_fault.Reads as sequence-fault-reads
-use Rattle.judging.proofs.sequence.surface_next.Reads as surface-next-reads
-use Rattle.picture.proofs.surface_fault.Reads as surface-fault-reads
-use Rattle.picture.proofs.surface_of.Reads as surface-of-reads
 
--- src/judging.rt:37:34
 sequence-fault-requires : tie.Need-sequence-fault-requires
 sequence-fault-requires c κs = search needs
 
--- src/judging.rt:37:61
 surface-fault-requires : tie.Need-surface-fault-requires
 surface-fault-requires c κs = search needs
 
--- src/judging.rt:37:9
 earlier-requires : tie.Need-earlier-requires
 earlier-requires c κs = search needs
 
--- src/judging.rt:38:54
 surface-of-requires : tie.Need-surface-of-requires
 surface-of-requires c κs = search needs
 
--- src/judging.rt:38:21
 surface-next-requires : tie.Need-surface-next-requires
 surface-next-requires c κs = search needs
 
--- src/judging.rt:38:5
 conclude-requires : tie.Need-conclude-requires
 conclude-requires c κs = search needs
 
--- src/judging.rt:33:1
 returns : tie.Need-returns
 unfolding judge rulesOf nextOf
 returns c =

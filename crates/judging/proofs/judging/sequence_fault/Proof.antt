@@ -1,14 +1,10 @@
 use borrow.Author.Tests.{not-true, not-false}
 use Rattle.judging.proofs.judging.sequence_fault.Statement.{statement}
 use Rattle.judging.proofs.judging.sequence_fault.Tie as tie
-use Rattle.judging.proofs.judging.sequence_fault.Reads as reads
-use Rattle.judging.proofs.judging.sequence_fault.Lts as lts
 
--- src/judging.rt:19:9
 returns : tie.Need-returns
 returns c = simp (not-true (c .before .args .permitted) (c .if1 .taken))
 
--- src/judging.rt:15:1
 returns-2 : tie.Need-returns-2
 returns-2 c = simp (not-false (c .before .args .permitted) (c .if1 .left))
 

@@ -2,10 +2,7 @@ use mathlib.Core.Path.{refl}
 use Rattle.judging.specs.Sequence.{endNext}
 use Rattle.judging.proofs.sequence.end_next.Statement.{statement}
 use Rattle.judging.proofs.sequence.end_next.Tie as tie
-use Rattle.judging.proofs.sequence.end_next.Reads as reads
-use Rattle.judging.proofs.sequence.end_next.Lts as lts
 
--- src/sequence.rt:36:1
 returns : tie.Need-returns
 unfolding endNext
 returns c = refl

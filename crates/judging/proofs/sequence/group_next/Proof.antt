@@ -2,10 +2,7 @@ use mathlib.Core.Path.{refl}
 use Rattle.judging.specs.Sequence.{groupNext}
 use Rattle.judging.proofs.sequence.group_next.Statement.{statement}
 use Rattle.judging.proofs.sequence.group_next.Tie as tie
-use Rattle.judging.proofs.sequence.group_next.Reads as reads
-use Rattle.judging.proofs.sequence.group_next.Lts as lts
 
--- src/sequence.rt:26:1
 returns : tie.Need-returns
 unfolding groupNext
 returns c = refl

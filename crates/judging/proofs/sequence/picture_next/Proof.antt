@@ -2,10 +2,7 @@ use mathlib.Core.Path.{refl}
 use Rattle.judging.specs.Sequence.{pictureNext}
 use Rattle.judging.proofs.sequence.picture_next.Statement.{statement}
 use Rattle.judging.proofs.sequence.picture_next.Tie as tie
-use Rattle.judging.proofs.sequence.picture_next.Reads as reads
-use Rattle.judging.proofs.sequence.picture_next.Lts as lts
 
--- src/sequence.rt:17:1
 returns : tie.Need-returns
 unfolding pictureNext
 returns c = refl

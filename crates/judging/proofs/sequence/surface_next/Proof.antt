@@ -2,10 +2,7 @@ use mathlib.Core.Path.{refl}
 use Rattle.judging.specs.Sequence.{surfaceNext}
 use Rattle.judging.proofs.sequence.surface_next.Statement.{statement}
 use Rattle.judging.proofs.sequence.surface_next.Tie as tie
-use Rattle.judging.proofs.sequence.surface_next.Reads as reads
-use Rattle.judging.proofs.sequence.surface_next.Lts as lts
 
--- src/sequence.rt:8:1
 returns : tie.Need-returns
 unfolding surfaceNext
 returns c = refl

@@ -10,15 +10,6 @@ use Rattle.macroblocks.proofs.MacroblockLaws.{judged-whole, next-whole,
 use borrow.Author.Needs.{needs}
 use Rattle.macroblocks.proofs.judging.judge_macroblock.Statement.{statement}
 use Rattle.macroblocks.proofs.judging.judge_macroblock.Tie as tie
-use Rattle.macroblocks.proofs.judging.judge_macroblock.Reads as reads
-use Rattle.macroblocks.proofs.judging.judge_macroblock.Lts as lts
-use Rattle.answers.proofs.earlier.Reads as earlier-reads
-use Rattle.command.proofs.macroblock_of.Reads as macroblock-of-reads
-use Rattle.command.proofs.fault_of.Reads as fault-of-reads
-use Rattle.macroblocks.proofs.placing.placed_by.Reads as placed-by-reads
-use Rattle.macroblocks.proofs.placing.placed_fault.Reads as placed-fault-reads
-use Rattle.macroblocks.proofs.progressing.progress_after.Reads as progress-after-reads
-use Rattle.macroblocks.proofs.touching.blocks_of.Reads as blocks-of-reads
 
 fault-is : (c : tie.After-earlier) → c .earlier .result ≡ judged (macroblockRules (c .before .before .before .before .before .before .before .args .progress) (now (c .before .before .before .before .before .before .before .args .words)))
 fault-is c =
@@ -31,35 +22,27 @@ fault-is c =
     (c .before .fault-of .ensures)
     (c .earlier .ensures)
 
--- src/judging.rt:18:9
 macroblock-of-requires : tie.Need-macroblock-of-requires
 macroblock-of-requires c κs = search needs
 
--- src/judging.rt:20:9
 blocks-of-requires : tie.Need-blocks-of-requires
 blocks-of-requires c κs = search needs
 
--- src/judging.rt:21:9
 placed-by-requires : tie.Need-placed-by-requires
 placed-by-requires c κs = search needs
 
--- src/judging.rt:22:34
 placed-fault-requires : tie.Need-placed-fault-requires
 placed-fault-requires c κs = search needs
 
--- src/judging.rt:22:65
 fault-of-requires : tie.Need-fault-of-requires
 fault-of-requires c κs = search needs
 
--- src/judging.rt:22:9
 earlier-requires : tie.Need-earlier-requires
 earlier-requires c κs = search needs
 
--- src/judging.rt:23:28
 enum-known-fault : tie.Need-enum-known-fault
 enum-known-fault c = search needs
 
--- src/judging.rt:24:9
 returns : tie.Need-returns
 returns c =
     let e = c .before .before .before in
@@ -69,14 +52,12 @@ returns c =
 enum-told : tie.Need-enum-told
 enum-told c = search needs
 
--- src/judging.rt:26:19
 progress-after-requires : tie.Need-progress-after-requires
 progress-after-requires c κs =
     let e = c .before .before in
     let s = e .before .before .before .before .before .before .before in
     row-left (s .args .progress) (now (s .args .words)) (sym (fault-is e) ∙ c .enum-told .given .1)
 
--- src/judging.rt:15:1
 returns-2 : tie.Need-returns-2
 returns-2 c =
     let e = c .before .before .before in

@@ -2,27 +2,19 @@ use Rattle.macroblocks.specs.Progressing.{extentsAfter}
 use borrow.Author.Needs.{needs}
 use Rattle.macroblocks.proofs.progressing.extents_after.Statement.{statement}
 use Rattle.macroblocks.proofs.progressing.extents_after.Tie as tie
-use Rattle.macroblocks.proofs.progressing.extents_after.Reads as reads
-use Rattle.macroblocks.proofs.progressing.extents_after.Lts as lts
-use Rattle.prediction.proofs.Extent.join.Reads as join-reads
 
--- src/progressing.rt:68:9
 join-requires : tie.Need-join-requires
 join-requires c κs = search needs
 
--- src/progressing.rt:69:9
 join-requires-2 : tie.Need-join-requires-2
 join-requires-2 c κs = search needs
 
--- src/progressing.rt:70:9
 join-requires-3 : tie.Need-join-requires-3
 join-requires-3 c κs = search needs
 
--- src/progressing.rt:71:9
 join-requires-4 : tie.Need-join-requires-4
 join-requires-4 c κs = search needs
 
--- src/progressing.rt:64:1
 returns : tie.Need-returns
 unfolding extentsAfter
 returns c = simp (c .before .before .before .join .ensures, c .before .before .join2 .ensures, c .before .join3 .ensures, c .join4 .ensures)

@@ -3,35 +3,26 @@ use borrow.Author.Tests.{lt-ltb, le-ltb}
 use borrow.Author.Needs.{needs}
 use Rattle.macroblocks.proofs.progressing.position_after.Statement.{statement}
 use Rattle.macroblocks.proofs.progressing.position_after.Tie as tie
-use Rattle.macroblocks.proofs.progressing.position_after.Reads as reads
-use Rattle.macroblocks.proofs.progressing.position_after.Lts as lts
 
--- src/progressing.rt:22:8
 cast-if1 : tie.Need-cast-if1
 cast-if1 c = search needs
 
--- src/progressing.rt:22:8
 add-if1 : tie.Need-add-if1
 add-if1 c = search needs
 
--- src/progressing.rt:22:28
 cast-if1-2 : tie.Need-cast-if1-2
 cast-if1-2 c = search needs
 
--- src/progressing.rt:24:21
 add-t10 : tie.Need-add-t10
 add-t10 c = search needs
 
--- src/progressing.rt:23:9
 returns : tie.Need-returns
 unfolding positionAfter
 returns c = simp (lt-ltb _ _ (c .if1 .taken))
 
--- src/progressing.rt:30:14
 add-t11 : tie.Need-add-t11
 add-t11 c = search needs
 
--- src/progressing.rt:15:1
 returns-2 : tie.Need-returns-2
 unfolding positionAfter
 returns-2 c = simp (le-ltb _ _ (c .if1 .left))

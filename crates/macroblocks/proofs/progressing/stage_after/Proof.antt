@@ -2,10 +2,7 @@ use Rattle.macroblocks.specs.Progressing.{stageAfter}
 use mathlib.Core.Path.{refl}
 use Rattle.macroblocks.proofs.progressing.stage_after.Statement.{statement}
 use Rattle.macroblocks.proofs.progressing.stage_after.Tie as tie
-use Rattle.macroblocks.proofs.progressing.stage_after.Reads as reads
-use Rattle.macroblocks.proofs.progressing.stage_after.Lts as lts
 
--- src/progressing.rt:34:1
 returns : tie.Need-returns
 unfolding stageAfter
 returns c = refl

@@ -8,30 +8,22 @@ use Rattle.macroblocks.specs.Blocks.{predictedIn}
 use borrow.Author.Needs.{needs}
 use Rattle.macroblocks.proofs.touching.predicted_in.Statement.{statement}
 use Rattle.macroblocks.proofs.touching.predicted_in.Tie as tie
-use Rattle.macroblocks.proofs.touching.predicted_in.Reads as reads
-use Rattle.macroblocks.proofs.touching.predicted_in.Lts as lts
-use Rattle.prediction.proofs.Extent.empty.Reads as empty-reads
 
 outside : (ranged : Bool) {b : Block} {e : Extent} → e ≡ emptyExtent → b ≡ Outside → record { «in_range» = ranged; inside = false; extent = e } ≡ predictedIn ranged b
 outside ranged f g = simp (f, g)
 
--- src/touching.rt:53:21
 enum-told : tie.Need-enum-told
 enum-told c = search needs
 
--- src/touching.rt:53:21
 empty-requires : tie.Need-empty-requires
 empty-requires c κs = search needs
 
--- src/touching.rt:55:23
 enum-known-block : tie.Need-enum-known-block
 enum-known-block c = search needs
 
--- src/touching.rt:46:1
 returns : tie.Need-returns
 returns c = outside (c .before .before .before .args .ranged) (c .empty .ensures) (c .before .enum-told .given .1)
 
--- src/touching.rt:46:1
 returns-2 : tie.Need-returns-2
 returns-2 c = ap (predictedIn (c .before .before .before .args .ranged)) (sym (c .before .block .given .1))
 
