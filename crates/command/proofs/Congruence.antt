@@ -1,7 +1,7 @@
 -- Equal parts make equal wholes, for the proofs of the functions: over plain variables, so that each is checked once.
 use mathlib.Core.Path.{_≡_, ap, ap₂, _∙_}
 use mathlib.Core.Bool.{Bool, _&&_}
-use mathlib.Core.List.{List}
+use mathlib.Core.List.{List, _∷_}
 use Prim.Native.Nat.{ℕ}
 use lib.Dec.{eqb}
 use lib.ListN.{getD}
@@ -42,3 +42,7 @@ same-both ea eb = ap₂ _&&_ ea eb
 
 pub same-fields : (k : Kept) {a b c d a′ b′ c′ d′ : Bool} → a ≡ a′ → b ≡ b′ → c ≡ c′ → d ≡ d′ → fieldRules a b c d k ≡ fieldRules a′ b′ c′ d′ k
 same-fields k {a} {b} {c} {d} {a′} {b′} {c′} {d′} ea eb ec ed = ap₂ (λ (x y : Bool). fieldRules x y c d k) ea eb ∙ ap₂ (λ (x y : Bool). fieldRules a′ b′ x y k) ec ed
+
+-- nine words from the header, words 1 to 4 and the vectors
+pub same-words : {h a b c d a' b' c' d' : ℕ} {v v' : List ℕ} → a ≡ a' → b ≡ b' → c ≡ c' → d ≡ d' → v ≡ v' → h ∷ a ∷ b ∷ c ∷ d ∷ v ≡ h ∷ a' ∷ b' ∷ c' ∷ d' ∷ v'
+same-words ea eb ec ed ev = cc

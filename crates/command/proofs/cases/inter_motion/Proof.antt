@@ -1,4 +1,8 @@
-use Rattle.command.specs.Cases.{motionOf}
+use mathlib.Core.Path.{sym, ap, ap₂, _∙_}
+use Prim.Native.Nat.{ℕ}
+use Rattle.command.specs.declared.Case.the-variants.{Inter}
+use Rattle.command.specs.declared.Prediction.{Prediction}
+use Rattle.command.specs.Cases.{motion, motionOf}
 use borrow.Author.Needs.{needs}
 use Rattle.command.proofs.cases.inter_motion.Statement.{statement}
 use Rattle.command.proofs.cases.inter_motion.Tie as tie
@@ -26,15 +30,15 @@ word-of-requires-4 c κs = search needs
 
 returns : tie.Need-returns
 unfolding motionOf
-returns c = cc
+returns c = ap (λ (w : ℕ). motion 1 w 0) (c .word-of .ensures) ∙ ap (λ (x : Prediction). motionOf (Inter x)) (sym (c .before .before .by .given .1))
 
 returns-2 : tie.Need-returns-2
 unfolding motionOf
-returns-2 c = cc
+returns-2 c = ap (λ (w : ℕ). motion 2 0 w) (c .word-of2 .ensures) ∙ ap (λ (x : Prediction). motionOf (Inter x)) (sym (c .before .before .by2 .given .1))
 
 returns-3 : tie.Need-returns-3
 unfolding motionOf
-returns-3 c = cc
+returns-3 c = ap₂ (λ (v w : ℕ). motion 3 v w) (c .before .word-of3 .ensures) (c .word-of4 .ensures) ∙ ap (λ (x : Prediction). motionOf (Inter x)) (sym (c .before .before .before .by3 .given .1))
 
 pub inter-motion-spec : {M : Type 1} → statement M
 inter-motion-spec =

@@ -1,3 +1,4 @@
+use mathlib.Core.Path.{sym, ap, _∙_}
 use Rattle.command.specs.Cases.{motionOf}
 use borrow.Author.Needs.{needs}
 use Rattle.command.proofs.cases.motion_of.Statement.{statement}
@@ -14,10 +15,10 @@ inter-motion-requires c κs = search needs
 
 returns : tie.Need-returns
 unfolding motionOf
-returns c = cc
+returns c = ap motionOf (sym (c .enum-told .given .1))
 
 returns-2 : tie.Need-returns-2
-returns-2 c = cc
+returns-2 c = c .inter-motion .ensures ∙ ap motionOf (sym (c .before .before .case .given .1))
 
 pub motion-of-spec : {M : Type 1} → statement M
 motion-of-spec =

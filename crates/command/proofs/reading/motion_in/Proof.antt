@@ -15,7 +15,7 @@ word-at-requires-3 : tie.Need-word-at-requires-3
 word-at-requires-3 c κs = search needs
 
 returns : tie.Need-returns
-returns c = cc
+returns c = simp (c .before .before .before .word-at .ensures, c .before .before .kind-in .ensures, c .before .word-at2 .ensures, c .word-at3 .ensures)
 
 pub motion-in-spec : {M : Type 1} → statement M
 motion-in-spec =

@@ -1,3 +1,5 @@
+use mathlib.Core.Path.{_≡_, sym, ap, ap₂, _∙_}
+use Rattle.answers.specs.Answers.{earlier, judged}
 use denote.Ref.{now}
 use Rattle.answers.proofs.Judging.{judged-append}
 use Rattle.command.specs.Macroblocks.{wordAt, macroblockOf}
@@ -36,7 +38,10 @@ returns c =
     let ws = now (c .before .before .before .before .before .before .before .before .before .args .words) in
     let fields = fieldRules (fixed1 (wordAt ws 1)) (typePermitted (wordAt ws 1)) (fixed3 (wordAt ws 3)) (fixed4 (wordAt ws 4)) (keptBy (macroblockOf ws)) in
     let both = judged-append fields (vectorRules (copied ws 5 0) (copied ws 6 1) (copied ws 7 2) (copied ws 8 3)) in
-    cc
+    let kept = c .before .before .before .before .before .before .kept-by .ensures ∙ ap keptBy (c .before .before .before .before .before .before .before .macroblock-of .ensures) in
+    let words : c .before .before .words-fault .result ≡ judged fields = c .before .before .words-fault .ensures
+    ∙ simp (kept, c .before .before .before .before .before .word-at .ensures, c .before .before .before .before .word-at2 .ensures, c .before .before .before .word-at3 .ensures) in
+    c .earlier .ensures ∙ ap₂ earlier words (c .before .copies-fault .ensures) ∙ sym both
 
 pub fault-of-spec : {M : Type 1} → statement M
 fault-of-spec =

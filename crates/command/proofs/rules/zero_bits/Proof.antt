@@ -6,7 +6,7 @@ bits-requires : tie.Need-bits-requires
 bits-requires c κs = search needs
 
 returns : tie.Need-returns
-returns c = cc
+returns c = simp (c .bits .ensures)
 
 pub zero-bits-spec : {M : Type 1} → statement M
 zero-bits-spec = tie.close (tie.spec bits-requires returns)

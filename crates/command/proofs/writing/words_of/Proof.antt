@@ -1,9 +1,11 @@
-use mathlib.Core.Path.{_≡_, sym, subst}
+use mathlib.Core.Path.{_≡_, sym, ap, subst, _∙_}
 use mathlib.Core.List.{List}
 use Prim.Native.Nat.{ℕ}
 use Rattle.fields.specs.Bytes.{elements}
+use Rattle.command.specs.Cases.{vectorWords}
 use Rattle.command.specs.Macroblocks.{wordsOf}
 use Rattle.command.proofs.CaseLaws.{vectors-listed}
+use Rattle.command.proofs.Congruence.{same-words}
 use borrow.Author.Needs.{needs}
 use Rattle.command.proofs.writing.words_of.Statement.{statement}
 use Rattle.command.proofs.writing.words_of.Tie as tie
@@ -42,8 +44,11 @@ returns : tie.Need-returns
 unfolding wordsOf
 returns c =
     let v = c .before .before .before .before .vector-words in
-    let listed = subst (λ (ws : List ℕ). elements ws 0 4 ≡ ws) (sym (v .ensures)) (vectors-listed _) in
-    cc
+    let m = c .before .before .before .before .before .motion-of .ensures in
+    let listed : elements (v .result) 0 4 ≡ v .result = subst (λ (ws : List ℕ). elements ws 0 4 ≡ ws) (sym (v .ensures)) (vectors-listed _) in
+    let one = c .before .before .before .word1-of .ensures in
+    same-words (one ∙ simp m) (c .before .before .word2-of .ensures) (c .before .word3-of .ensures) (c .word4-of .ensures)
+    (listed ∙ v .ensures ∙ ap vectorWords m)
 
 pub words-of-spec : {M : Type 1} → statement M
 words-of-spec =
