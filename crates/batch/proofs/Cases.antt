@@ -8,7 +8,7 @@ use Rattle.prediction.specs.Ranges.{vectorInRange}
 use Rattle.prediction.specs.Addresses.{address}
 use Rattle.prediction.specs.Extents.{emptyExtent, joined}
 use Rattle.prediction.specs.Blocks.{blockAt}
-use Rattle.command.specs.Headers.{table, lookUp, headerOf}
+use Rattle.headers.specs.Headers.{table, lookUp, headerOf}
 use Rattle.command.specs.Cases.{motionOf, caseOf, vectorWords}
 use Rattle.command.specs.Macroblocks.{macroblockOf}
 use Rattle.command.specs.Rules.{keptBy, fieldRules, vectorRules, commandRules}

@@ -8,11 +8,11 @@ use native.Mathlib.Omega.{arith}
 use lib.ListN.{length, getD}
 use Rattle.answers.specs.Answers.{judged}
 use Rattle.answers.specs.declared.Answer.the-variants.{Accepted}
-use Rattle.command.specs.Headers.{begins}
+use Rattle.headers.specs.Headers.{begins}
 use Rattle.command.specs.Macroblocks.{macroblockOf}
-use Rattle.command.specs.declared.Header.{Header}
-use Rattle.command.specs.declared.Opcode.{Opcode}
-use Rattle.command.specs.declared.Opcode.the-variants.{Surface, Picture, Macroblock}
+use Rattle.headers.specs.declared.Header.{Header}
+use Rattle.headers.specs.declared.Opcode.{Opcode}
+use Rattle.headers.specs.declared.Opcode.the-variants.{Surface, Picture, Macroblock}
 use Rattle.picture.specs.Pictures.{pictureOf}
 use Rattle.picture.specs.Surfaces.{surfaceOf}
 use Rattle.progress.specs.Progress.{fresh}

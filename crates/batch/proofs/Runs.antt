@@ -9,9 +9,9 @@ use native.Mathlib.Omega.{arith}
 use borrow.Author.Tests.{ltb-true, eqb-true}
 use lib.Dec.{T, eqb, leb, ltb}
 use lib.ListN.{length}
-use Rattle.command.specs.Headers.{headerOf, wordsIn, lookUp, table}
-use Rattle.command.specs.Macroblocks.{wordAt}
-use Rattle.command.specs.declared.Header.{Header}
+use Rattle.headers.specs.Headers.{headerOf, wordsIn, lookUp, table}
+use Rattle.headers.specs.Words.{wordAt}
+use Rattle.headers.specs.declared.Header.{Header}
 use Rattle.progress.specs.Progress.{fresh}
 use Rattle.progress.specs.declared.Progress.{Progress}
 use Rattle.progress.specs.declared.Verdict.{Verdict}

@@ -9,12 +9,12 @@ use native.Mathlib.Omega.{arith}
 use borrow.Author.Tests.{lt-leb, eq-eqb, ne-eqb}
 use lib.ListN.{length, getD, take, drop, length-drop, take-append-drop, drop-of-length-le}
 use lib.Seq.{drop-cons, drop-drop, getD-drop, length-take-le}
-use Rattle.command.specs.Headers.{headerOf, wordsIn}
-use Rattle.command.specs.Macroblocks.{wordAt}
-use Rattle.command.specs.declared.Header.{Header}
-use Rattle.command.specs.declared.Header.the-variants.{Known, Carried, Unknown}
-use Rattle.command.specs.declared.Opcode.{Opcode}
-use Rattle.command.proofs.HeaderLaws.{known-size, carried-size}
+use Rattle.headers.specs.Headers.{headerOf, wordsIn}
+use Rattle.headers.specs.Words.{wordAt}
+use Rattle.headers.specs.declared.Header.{Header}
+use Rattle.headers.specs.declared.Header.the-variants.{Known, Carried, Unknown}
+use Rattle.headers.specs.declared.Opcode.{Opcode}
+use Rattle.headers.proofs.HeaderLaws.{known-size, carried-size}
 use Rattle.progress.specs.declared.Progress.{Progress}
 use Rattle.judging.specs.Judging.{judge}
 use Rattle.progress.specs.declared.Verdict.{Verdict}

@@ -10,10 +10,10 @@ use borrow.Author.Tests.{lt-ltb, le-ltb, lt-leb, le-leb, ne-eqb, ltb-true, leb-f
 use lib.Dec.{eqb, leb, ltb}
 use lib.ListN.{length, take, drop, length-append, length-drop, take-append-drop}
 use lib.Seq.{length-take-le}
-use Rattle.command.specs.Headers.{headerOf, wordsIn}
-use Rattle.command.specs.Macroblocks.{wordAt}
-use Rattle.command.specs.declared.Header.{Header}
-use Rattle.command.proofs.HeaderLaws.{words-few}
+use Rattle.headers.specs.Headers.{headerOf, wordsIn}
+use Rattle.headers.specs.Words.{wordAt}
+use Rattle.headers.specs.declared.Header.{Header}
+use Rattle.headers.proofs.HeaderLaws.{words-few}
 use Rattle.progress.specs.declared.Progress.{Progress}
 use Rattle.judging.specs.Judging.{judge}
 use Rattle.progress.specs.declared.Verdict.{Verdict}

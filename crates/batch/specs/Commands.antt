@@ -5,11 +5,12 @@ use mathlib.Core.List.{List, [], _∷_, _++_}
 use mathlib.Core.Path.{_≡_}
 use lib.Dec.{eqb, ltb}
 use lib.ListN.{length}
-use Rattle.command.specs.Headers.{headerOf, wordsIn, begins}
-use Rattle.command.specs.Macroblocks.{wordAt, macroblockOf}
-use Rattle.command.specs.declared.Header.{Header}
-use Rattle.command.specs.declared.Opcode.{Opcode}
-use Rattle.command.specs.declared.Opcode.the-variants.{Surface, Picture, Macroblock}
+use Rattle.headers.specs.Headers.{headerOf, wordsIn, begins}
+use Rattle.headers.specs.Words.{wordAt}
+use Rattle.command.specs.Macroblocks.{macroblockOf}
+use Rattle.headers.specs.declared.Header.{Header}
+use Rattle.headers.specs.declared.Opcode.{Opcode}
+use Rattle.headers.specs.declared.Opcode.the-variants.{Surface, Picture, Macroblock}
 use Rattle.picture.specs.Pictures.{pictureOf}
 use Rattle.picture.specs.Surfaces.{surfaceOf}
 use Rattle.picture.specs.declared.Frame as frames

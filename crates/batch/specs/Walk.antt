@@ -4,9 +4,9 @@ use mathlib.Core.Bool.{cond}
 use mathlib.Core.List.{List, [], _∷_, _++_}
 use lib.Dec.{eqb, leb, ltb}
 use lib.ListN.{length, drop}
-use Rattle.command.specs.Headers.{headerOf, wordsIn}
-use Rattle.command.specs.Macroblocks.{wordAt}
-use Rattle.command.specs.declared.Header.{Header}
+use Rattle.headers.specs.Headers.{headerOf, wordsIn}
+use Rattle.headers.specs.Words.{wordAt}
+use Rattle.headers.specs.declared.Header.{Header}
 use Rattle.progress.specs.Progress.{fresh}
 use Rattle.progress.specs.declared.Progress.{Progress}
 use Rattle.judging.specs.Judging.{judge}

@@ -1,6 +1,6 @@
 // Walking through the commands of a run of words.
 use crate::Walked;
-use command::Header;
+use headers::Header;
 use progress::Progress;
 use progress::Verdict;
 ghost use mathlib.Core.Path.{_≡_};
@@ -25,7 +25,7 @@ fn walk_within(progress: Progress, base: u32, words: &[u32]) -> Walked
             }
             at += 1;
         } else {
-            let header = command::read_header(word);
+            let header = headers::read_header(word);
             let (Header::Known(_, n) | Header::Carried(n)) = header else {
                 return Walked::Stopped(2, place);
             };

@@ -16,7 +16,8 @@ use Rattle.prediction.proofs.TwosComplement.{vector-back, vector-word-back, vec
 use Rattle.command.specs.Cases.{byKind, motion, motionOf, caseOf, vectorWords}
 use Rattle.command.specs.Legal.{CaseFits, Words}
 use Rattle.fields.specs.Word.{isSet, flag}
-use Rattle.command.specs.Macroblocks.{wordAt, intraType, typeOf}
+use Rattle.headers.specs.Words.{wordAt}
+use Rattle.command.specs.Macroblocks.{intraType, typeOf}
 use Rattle.command.specs.declared.Prediction.the-variants.{Forward, Backward, Both}
 use Rattle.command.specs.declared.Case.{Case}
 use Rattle.command.specs.declared.Case.the-variants.{Intra, Inter}

@@ -15,7 +15,8 @@ use Rattle.fields.proofs.Packing.{valueIn, clear, piece, packed-field, packed-l
 use Rattle.answers.specs.Answers.{Rule}
 use Rattle.command.specs.Cases.{motion, motionOf, caseOf, vectorWords}
 use Rattle.command.specs.Legal.{Words, Command, Legal}
-use Rattle.command.specs.Macroblocks.{wordAt, intraType, kindIn, typeOf, motionIn, flagsIn, macroblockOf, fields1, fields2, fields3, fields4, wordsOf}
+use Rattle.headers.specs.Words.{wordAt}
+use Rattle.command.specs.Macroblocks.{intraType, kindIn, typeOf, motionIn, flagsIn, macroblockOf, fields1, fields2, fields3, fields4, wordsOf}
 use Rattle.command.specs.Rules.{keptBy, zeroBits, typePermitted, fixed1, fixed3, fixed4, fieldRules, vectorRules, copied, commandRules}
 use Rattle.command.specs.declared.Case.{Case}
 use Rattle.command.specs.declared.Case.the-variants.{Intra, Inter}

@@ -6,7 +6,8 @@ use Prim.Native.Nat.{ℕ}
 use lib.Dec.{eqb}
 use lib.ListN.{getD}
 use Rattle.command.specs.Cases.{vectorWords}
-use Rattle.command.specs.Macroblocks.{wordAt, motionIn, assembled}
+use Rattle.headers.specs.Words.{wordAt}
+use Rattle.command.specs.Macroblocks.{motionIn, assembled}
 use Rattle.command.specs.Rules.{fieldRules, vectorRules, copied}
 use Rattle.command.specs.declared.Case.{Case}
 use Rattle.command.specs.declared.Flags.{Flags}

@@ -2,6 +2,5 @@
 pub mod CaseLaws
 pub mod CommandLaws
 pub mod Congruence
-pub mod HeaderLaws
 -- for this crate alone
 mod Worked

@@ -2,29 +2,14 @@
 use mathlib.Core.Path.{_≡_, refl}
 use mathlib.Core.List.{List, [], _∷_, map}
 use Prim.Native.Nat.{ℕ, _+_}
-use lib.ListN.{drop}
-use Rattle.fields.specs.Word.{bits}
 use Rattle.answers.specs.Answers.{judged, numberOf, placeOf}
 use Rattle.prediction.specs.Vectors.{vectorOf, wordOf}
 use Rattle.command.specs.Cases.{motionOf, caseOf, vectorWords}
-use Rattle.command.specs.Headers.{Row, table}
 use Rattle.command.specs.Macroblocks.{macroblockOf, wordsOf}
 use Rattle.command.specs.Rules.{keptBy, fieldRules, vectorRules, commandRules}
-use Rattle.command.specs.declared.Header.{Header}
-use Rattle.command.specs.declared.Header.the-variants.{Known, Carried, Unknown}
 
 abbrev two : ℕ → ℕ → List ℕ
 two a b = a ∷ b ∷ []
-
-abbrev count : Header → ℕ
-count (Known k n) = n
-count (Carried n) = n
-count Unknown = 0
-
--- "31:29 = 3, 28:27 = 2 .. the low bits hold total words less 2": of every header but NOOP and END, which are one word
-lengths : map (λ (r : Row). two (bits (r .header) 31 27) (bits (r .header) 7 0 + 2)) (drop 2 table) ≡ map (λ (r : Row). two 14 (count (r .begins))) (drop 2 table)
-unfolding table
-lengths = refl
 
 -- P1's macroblock; forward only, backward only and both, with x −2 and y 3; backward has x 1 and y −1; and a skipped one
 commands : List (List ℕ)

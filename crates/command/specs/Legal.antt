@@ -8,8 +8,8 @@ use mir.Syntax.{w16}
 use mir.Val.{SFits}
 use Rattle.prediction.specs.declared.Vector.{Vector}
 use Rattle.answers.specs.Answers.{judged}
-use Rattle.command.specs.Headers.{macroblockHeader}
-use Rattle.command.specs.Macroblocks.{wordAt}
+use Rattle.headers.specs.Headers.{macroblockHeader}
+use Rattle.headers.specs.Words.{wordAt}
 use Rattle.command.specs.Rules.{keptBy, commandRules}
 use Rattle.answers.specs.declared.Answer.the-variants.{Accepted}
 use Rattle.command.specs.declared.Prediction.the-variants.{Forward, Backward, Both}

@@ -5,17 +5,14 @@ use mathlib.Core.List.{List, [], _∷_}
 use lib.Dec.{eqb}
 use lib.ListN.{getD}
 use Rattle.fields.specs.Word.{Field, bits, isSet, flag, field, packed}
-use Rattle.command.specs.Headers.{macroblockHeader}
+use Rattle.headers.specs.Words.{wordAt}
+use Rattle.headers.specs.Headers.{macroblockHeader}
 use Rattle.command.specs.Cases.{motion, motionOf, caseOf, vectorWords}
 use Rattle.command.specs.declared.Case.{Case}
 use Rattle.command.specs.declared.Case.the-variants.{Intra, Inter}
 use Rattle.command.specs.declared.Flags.{Flags}
 use Rattle.command.specs.declared.Macroblock.{Macroblock}
 use Rattle.command.specs.declared.Motion.{Motion}
-
--- A word of a command by its number from the header, which is 0. A word that is not there counts as 0.
-abbrev pub wordAt : List ℕ → ℕ → ℕ
-wordAt ws i = getD ws i 0
 
 abbrev pub isIntra : Case → Bool
 isIntra Intra = true

@@ -6,7 +6,8 @@ use lib.Dec.{eqb, leb}
 use Rattle.fields.specs.Word.{bits, isSet}
 use Rattle.answers.specs.Answers.{Rule, rule}
 use Rattle.command.specs.Cases.{vectorWords}
-use Rattle.command.specs.Macroblocks.{wordAt, isIntra, intraType, motionIn, macroblockOf}
+use Rattle.headers.specs.Words.{wordAt}
+use Rattle.command.specs.Macroblocks.{isIntra, intraType, motionIn, macroblockOf}
 use Rattle.command.specs.declared.Kept.{Kept}
 use Rattle.command.specs.declared.Macroblock.{Macroblock}
 

@@ -1,40 +1,16 @@
-// Commands: what a word begins, and the words of a MACROBLOCK command.
+// Macroblocks, and the words of their commands.
 mod cases;
-mod headers;
 mod reading;
 mod rules;
 mod writing;
 
 pub use cases::case_of;
 pub use cases::motion_of;
-pub use headers::read_header;
 use prediction::Vector;
 pub use reading::macroblock_of;
-pub use reading::word_at;
 pub use rules::fault_of;
 pub use rules::kept_by;
 pub use writing::words_of;
-
-// The word that begins a MACROBLOCK command.
-pub const MACROBLOCK_HEADER: u32 = 0x7349_0007;
-
-// The commands that have rules of their own.
-pub enum Opcode {
-    Noop,
-    End,
-    Surface,
-    Picture,
-    SliceGroup,
-    Macroblock,
-}
-
-// What a word begins: a known command or a carried one (document 01's term for those that only have a length), each with its
-// count of words, or no command.
-pub enum Header {
-    Known(Opcode, usize),
-    Carried(usize),
-    Unknown,
-}
 
 // What an inter macroblock is predicted from, with the vectors that it has and no others.
 pub enum Prediction {

@@ -5,14 +5,7 @@ use crate::Macroblock;
 use crate::Motion;
 use crate::cases;
 ghost use mathlib.Core.Path.{_≡_};
-ghost use Rattle.command.specs.Macroblocks.{wordAt, kindIn, flagsIn, motionIn, assembled, macroblockOf};
-
-// A word of a command, 0 where there is none.
-pub fn word_at(words: &[u32], i: usize) -> u32
-    ensures { λ r. ⌜ r ≡ wordAt (now (words .entry)) i ⌝ }
-{
-    if i < words.len() { words[i] } else { 0 }
-}
+ghost use Rattle.command.specs.Macroblocks.{kindIn, flagsIn, motionIn, assembled, macroblockOf};
 
 // The kind that word 1 gives, a number that is no kind among them.
 fn kind_in(word1: u32) -> u8
@@ -28,9 +21,9 @@ fn kind_in(word1: u32) -> u8
 pub(crate) fn motion_in(words: &[u32]) -> Motion
     ensures { λ r. ⌜ r ≡ motionIn (now (words .entry)) ⌝ }
 {
-    let kind = kind_in(word_at(words, 1));
-    let forward = word_at(words, 5);
-    let backward = word_at(words, 6);
+    let kind = kind_in(headers::word_at(words, 1));
+    let forward = headers::word_at(words, 5);
+    let backward = headers::word_at(words, 6);
     Motion {
         kind,
         forward,
@@ -75,9 +68,9 @@ pub fn macroblock_of(words: &[u32]) -> Macroblock
     ensures { λ r. ⌜ r ≡ macroblockOf (now (words .entry)) ⌝ }
 {
     let case = cases::case_of(motion_in(words));
-    let one = word_at(words, 1);
-    let two = word_at(words, 2);
-    let three = word_at(words, 3);
-    let four = word_at(words, 4);
+    let one = headers::word_at(words, 1);
+    let two = headers::word_at(words, 2);
+    let three = headers::word_at(words, 3);
+    let four = headers::word_at(words, 4);
     assembled(one, two, three, four, case)
 }

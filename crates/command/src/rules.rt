@@ -109,10 +109,10 @@ fn copies_fault(words: &[u32]) -> Answer
     ensures { λ r. ⌜ r ≡ judged (vectorRules (copied (now (words .entry)) 5 0) (copied (now (words .entry)) 6 1) (copied (now (words .entry)) 7 2) (copied (now (words .entry)) 8 3)) ⌝ }
 {
     let vectors = writing::vector_words(reading::motion_in(words));
-    let five = reading::word_at(words, 5) == vectors[0];
-    let six = reading::word_at(words, 6) == vectors[1];
-    let seven = reading::word_at(words, 7) == vectors[2];
-    let eight = reading::word_at(words, 8) == vectors[3];
+    let five = headers::word_at(words, 5) == vectors[0];
+    let six = headers::word_at(words, 6) == vectors[1];
+    let seven = headers::word_at(words, 7) == vectors[2];
+    let eight = headers::word_at(words, 8) == vectors[3];
     vector_fault(five, six, seven, eight)
 }
 
@@ -121,9 +121,9 @@ pub fn fault_of(words: &[u32]) -> Answer
     ensures { λ r. ⌜ r ≡ judged (commandRules (now (words .entry))) ⌝ }
 {
     let kept = kept_by(reading::macroblock_of(words));
-    let one = reading::word_at(words, 1);
-    let three = reading::word_at(words, 3);
-    let four = reading::word_at(words, 4);
+    let one = headers::word_at(words, 1);
+    let three = headers::word_at(words, 3);
+    let four = headers::word_at(words, 4);
     let fields = words_fault(one, three, four, kept);
     answers::earlier(fields, copies_fault(words))
 }

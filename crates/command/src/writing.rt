@@ -1,8 +1,8 @@
 // Writing the words of a MACROBLOCK command.
-use crate::MACROBLOCK_HEADER;
 use crate::Macroblock;
 use crate::Motion;
 use crate::cases;
+use headers::MACROBLOCK_HEADER;
 ghost use mathlib.Core.Path.{_≡_};
 ghost use Rattle.fields.specs.Word.{packed};
 ghost use Rattle.command.specs.Cases.{vectorWords};

@@ -4,8 +4,8 @@
 // A header's line has its word, its name and its count of words. The others have the answer's number and place, and the lent
 // memory afterwards. rust/reference writes the cases and the lines that are due.
 use answers::Answer;
-use command::Header;
-use command::Opcode;
+use headers::Header;
+use headers::Opcode;
 use libc::STDIN_FILENO;
 use libc::STDOUT_FILENO;
 
@@ -25,7 +25,7 @@ fn header_case(word: u32) {
     io::write_all(STDOUT_FILENO, b"header ");
     print_hex(word, 8);
     io::write_all(STDOUT_FILENO, b" ");
-    let header = command::read_header(word);
+    let header = headers::read_header(word);
     match header {
         Header::Known(opcode, count) => {
             print_name(opcode);

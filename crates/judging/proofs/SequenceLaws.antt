@@ -11,10 +11,10 @@ use lib.Dec.{T, leb, ltb}
 use Rattle.answers.specs.Answers.{judged}
 use Rattle.answers.specs.declared.Answer.the-variants.{Accepted}
 use Rattle.answers.proofs.Judging.{all-hold}
-use Rattle.command.specs.Headers.{begins}
-use Rattle.command.specs.declared.Header.{Header}
-use Rattle.command.specs.declared.Header.the-variants.{Known, Carried, Unknown}
-use Rattle.command.specs.declared.Opcode.the-variants.{Noop, End, Surface, Picture, SliceGroup, Macroblock}
+use Rattle.headers.specs.Headers.{begins}
+use Rattle.headers.specs.declared.Header.{Header}
+use Rattle.headers.specs.declared.Header.the-variants.{Known, Carried, Unknown}
+use Rattle.headers.specs.declared.Opcode.the-variants.{Noop, End, Surface, Picture, SliceGroup, Macroblock}
 use Rattle.command.proofs.CaseLaws.{and-left, and-right}
 use Rattle.picture.specs.Pictures.{pictureOf}
 use Rattle.picture.specs.Surfaces.{surfaceOf}

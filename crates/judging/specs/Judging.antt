@@ -3,9 +3,9 @@ use Prim.Native.Nat.{ℕ}
 use mathlib.Core.Bool.{false}
 use mathlib.Core.List.{List, [], _∷_, _++_}
 use Rattle.answers.specs.Answers.{Rule, rule, judged}
-use Rattle.command.specs.declared.Header.{Header}
-use Rattle.command.specs.declared.Header.the-variants.{Known, Carried, Unknown}
-use Rattle.command.specs.declared.Opcode.the-variants.{Noop, End, Surface, Picture, SliceGroup, Macroblock}
+use Rattle.headers.specs.declared.Header.{Header}
+use Rattle.headers.specs.declared.Header.the-variants.{Known, Carried, Unknown}
+use Rattle.headers.specs.declared.Opcode.the-variants.{Noop, End, Surface, Picture, SliceGroup, Macroblock}
 use Rattle.picture.specs.Surfaces.{surfaceOf, surfaceRules}
 use Rattle.picture.specs.Pictures.{pictureOf, pictureRules}
 use Rattle.progress.specs.Progress.{concluded}

@@ -1,8 +1,8 @@
 // Judging a command.
 use crate::sequence;
 use answers::Answer;
-use command::Header;
-use command::Opcode;
+use headers::Header;
+use headers::Opcode;
 use progress::Progress;
 use progress::Verdict;
 ghost use mathlib.Core.Path.{_≡_};

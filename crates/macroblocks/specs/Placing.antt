@@ -7,7 +7,8 @@ use Rattle.prediction.specs.declared.Grid.{Grid}
 use Rattle.prediction.specs.declared.Position.{Position}
 use Rattle.answers.specs.Answers.{Rule, rule}
 use Rattle.command.specs.Cases.{motionOf}
-use Rattle.command.specs.Macroblocks.{wordAt, macroblockOf}
+use Rattle.headers.specs.Words.{wordAt}
+use Rattle.command.specs.Macroblocks.{macroblockOf}
 use Rattle.command.specs.Rules.{commandRules}
 use Rattle.command.specs.declared.Flags.{Flags}
 use Rattle.command.specs.declared.Macroblock.{Macroblock}

@@ -28,10 +28,10 @@ fn coding_permits(coding: u8, kind: u8) -> bool
 fn zero_vectors(words: &[u32]) -> bool
     ensures { λ r. ⌜ r ≡ zeroVectors (now (words .entry)) ⌝ }
 {
-    let five = command::word_at(words, 5);
-    let six = command::word_at(words, 6);
-    let seven = command::word_at(words, 7);
-    let eight = command::word_at(words, 8);
+    let five = headers::word_at(words, 5);
+    let six = headers::word_at(words, 6);
+    let seven = headers::word_at(words, 7);
+    let eight = headers::word_at(words, 8);
     ((five == 0) & (six == 0)) & ((seven == 0) & (eight == 0))
 }
 
@@ -39,10 +39,10 @@ fn zero_vectors(words: &[u32]) -> bool
 fn repeats(before: Previous, kind: u8, words: &[u32]) -> bool
     ensures { λ r. ⌜ r ≡ repeats before kind (now (words .entry)) ⌝ }
 {
-    let five = before.five == command::word_at(words, 5);
-    let six = before.six == command::word_at(words, 6);
-    let seven = before.seven == command::word_at(words, 7);
-    let eight = before.eight == command::word_at(words, 8);
+    let five = before.five == headers::word_at(words, 5);
+    let six = before.six == headers::word_at(words, 6);
+    let seven = before.seven == headers::word_at(words, 7);
+    let eight = before.eight == headers::word_at(words, 8);
     let inter = (1 <= before.kind) & (before.kind == kind);
     inter & ((five & six) & (seven & eight))
 }

@@ -48,10 +48,10 @@ fn stage_after(stage: Stage, flags: Flags) -> Stage
 fn previous_of(kind: u8, words: &[u32]) -> Previous
     ensures { λ r. ⌜ r ≡ previousOf kind (now (words .entry)) ⌝ }
 {
-    let five = command::word_at(words, 5);
-    let six = command::word_at(words, 6);
-    let seven = command::word_at(words, 7);
-    let eight = command::word_at(words, 8);
+    let five = headers::word_at(words, 5);
+    let six = headers::word_at(words, 6);
+    let seven = headers::word_at(words, 7);
+    let eight = headers::word_at(words, 8);
     Previous {
         kind,
         five,

@@ -9,9 +9,9 @@ use borrow.Author.Tests.{lt-ltb, le-ltb, lt-leb, le-leb, ltb-true, leb-true}
 use lib.Dec.{leb, ltb}
 use lib.ListN.{length, take, drop, length-append, length-drop, take-append-drop, List·getD-append}
 use lib.Seq.{getD-take, length-take-le, take-all, drop-length}
-use Rattle.command.specs.Headers.{headerOf, wordsIn}
-use Rattle.command.specs.Macroblocks.{wordAt}
-use Rattle.command.proofs.HeaderLaws.{words-few}
+use Rattle.headers.specs.Headers.{headerOf, wordsIn}
+use Rattle.headers.specs.Words.{wordAt}
+use Rattle.headers.proofs.HeaderLaws.{words-few}
 use Rattle.progress.specs.declared.Progress.{Progress}
 use Rattle.progress.specs.declared.Verdict.{Verdict}
 use Rattle.progress.specs.declared.Verdict.the-variants.{Next, Stop}

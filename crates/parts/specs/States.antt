@@ -5,8 +5,8 @@ use mathlib.Core.List.{List, [], _∷_, foldl}
 use mathlib.Core.Path.{_≡_}
 use lib.Dec.{leb, ltb}
 use lib.ListN.{take}
-use Rattle.command.specs.Headers.{headerOf, wordsIn}
-use Rattle.command.specs.Macroblocks.{wordAt}
+use Rattle.headers.specs.Headers.{headerOf, wordsIn}
+use Rattle.headers.specs.Words.{wordAt}
 use Rattle.batch.specs.Reports.{finish}
 use Rattle.batch.specs.Walk.{Walk, going, stopped, step, start, limit}
 use Rattle.batch.specs.declared.Lengths.{Lengths}

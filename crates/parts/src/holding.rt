@@ -1,18 +1,18 @@
 // The words that are held of a command that is not complete.
 use crate::State;
-use command::Header;
+use headers::Header;
 ghost use mathlib.Core.Path.{_≡_};
 ghost use mathlib.Core.List.{_++_};
 ghost use Prim.Native.Nat.{_+_, _≤_};
 ghost use lib.ListN.{length, take};
-ghost use Rattle.command.specs.Headers.{headerOf, wordsIn};
+ghost use Rattle.headers.specs.Headers.{headerOf, wordsIn};
 ghost use Rattle.parts.specs.States.{gathered};
 
 // The count of words of the command that a word begins, 0 for none.
 pub(crate) fn command_words(word: u32) -> usize
     ensures { λ r. ⌜ r ≡ wordsIn (headerOf word) ⌝ }
 {
-    let header = command::read_header(word);
+    let header = headers::read_header(word);
     let (Header::Known(_, n) | Header::Carried(n)) = header else {
         return 0;
     };

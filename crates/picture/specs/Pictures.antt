@@ -6,7 +6,7 @@ use lib.Dec.{eqb, leb, ltb}
 use Rattle.fields.specs.Word.{bits}
 use Rattle.prediction.specs.declared.Grid.{Grid}
 use Rattle.answers.specs.Answers.{Rule, rule}
-use Rattle.command.specs.Macroblocks.{wordAt}
+use Rattle.headers.specs.Words.{wordAt}
 use Rattle.command.specs.Rules.{zeroBits}
 use Rattle.picture.specs.Fixed.{hasBits}
 use Rattle.picture.specs.declared.Codes.{Codes}

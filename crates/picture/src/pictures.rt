@@ -13,9 +13,9 @@ ghost use Rattle.picture.specs.Pictures.{pictureOf, codeInUse, inUse, un
 pub fn picture_of(words: &[u32]) -> Picture
     ensures { λ r. ⌜ r ≡ pictureOf (now (words .entry)) ⌝ }
 {
-    let one = command::word_at(words, 1);
-    let two = command::word_at(words, 2);
-    let three = command::word_at(words, 3);
+    let one = headers::word_at(words, 1);
+    let two = headers::word_at(words, 2);
+    let three = headers::word_at(words, 3);
     let forward = Codes {
         x: fields::bits(one, 19, 16) as u8,
         y: fields::bits(one, 23, 20) as u8,
@@ -126,7 +126,7 @@ pub fn picture_fault(frame: Frame, words: &[u32]) -> Answer
     let forward = picture.forward;
     let backward = picture.backward;
     let grid = picture.grid;
-    let bits1 = picture_bits1(command::word_at(words, 1));
+    let bits1 = picture_bits1(headers::word_at(words, 1));
     let typed = codes_permitted(picture.coding, forward, backward);
     let size = size_permitted(frame, grid);
     picture_broken(bits1, typed, size)

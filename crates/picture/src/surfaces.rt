@@ -11,9 +11,9 @@ ghost use Rattle.picture.specs.Surfaces.{surfaceOf, surfaceBits3, surfac
 pub fn surface_of(words: &[u32]) -> Frame
     ensures { λ r. ⌜ r ≡ surfaceOf (now (words .entry)) ⌝ }
 {
-    let two = command::word_at(words, 2);
-    let three = command::word_at(words, 3);
-    let four = command::word_at(words, 4);
+    let two = headers::word_at(words, 2);
+    let three = headers::word_at(words, 3);
+    let four = headers::word_at(words, 4);
     let surface = Surface {
         pitch: fields::bits(three, 19, 3) + 1,
         chroma_row: fields::bits(four, 14, 0) as u16,
@@ -61,10 +61,10 @@ pub fn surface_fault(words: &[u32]) -> Answer
     ensures { λ r. ⌜ r ≡ judged (surfaceRules (now (words .entry))) ⌝ }
 {
     let frame = surface_of(words);
-    let bits1 = command::word_at(words, 1) == 0;
-    let bits2 = fixed::has_bits(command::word_at(words, 2), 3, 0, 0);
-    let bits3 = surface_bits3(command::word_at(words, 3));
+    let bits1 = headers::word_at(words, 1) == 0;
+    let bits2 = fixed::has_bits(headers::word_at(words, 2), 3, 0, 0);
+    let bits3 = surface_bits3(headers::word_at(words, 3));
     let pitch = frame.surface.pitch % 128 == 0;
-    let bits4 = fixed::has_bits(command::word_at(words, 4), 31, 15, 0);
+    let bits4 = fixed::has_bits(headers::word_at(words, 4), 31, 15, 0);
     surface_broken(bits1, bits2, bits3, pitch, bits4)
 }

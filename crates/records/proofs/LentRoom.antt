@@ -9,8 +9,8 @@ use lib.Seq.{take-all}
 use Rattle.answers.specs.Answers.{judged}
 use Rattle.answers.specs.declared.Answer.{Answer}
 use Rattle.answers.specs.declared.Answer.the-variants.{Accepted, Refused}
-use Rattle.command.specs.Headers.{macroblockHeader}
-use Rattle.command.specs.Macroblocks.{wordAt}
+use Rattle.headers.specs.Headers.{macroblockHeader}
+use Rattle.headers.specs.Words.{wordAt}
 use Rattle.command.specs.Rules.{commandRules}
 use Rattle.records.specs.Alone.{next, lentAfter, roomFor, readFault, recordFault}
 use Rattle.records.specs.RecordRules.{recordRules}

@@ -16,9 +16,10 @@ use Rattle.answers.specs.declared.Answer.{Answer}
 use Rattle.answers.specs.declared.Answer.the-variants.{Accepted, Refused}
 use Rattle.answers.proofs.Judging.{no-accepted}
 use Rattle.command.specs.Cases.{motionOf}
-use Rattle.command.specs.Headers.{macroblockHeader}
+use Rattle.headers.specs.Headers.{macroblockHeader}
 use Rattle.command.specs.Legal.{Words, Command, Legal}
-use Rattle.command.specs.Macroblocks.{wordAt, macroblockOf, wordsOf}
+use Rattle.headers.specs.Words.{wordAt}
+use Rattle.command.specs.Macroblocks.{macroblockOf, wordsOf}
 use Rattle.command.specs.Rules.{commandRules}
 use Rattle.command.specs.declared.Macroblock.{Macroblock}
 use Rattle.command.proofs.CaseLaws.{vectors-four}

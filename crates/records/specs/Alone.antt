@@ -6,9 +6,10 @@ use mathlib.Core.Path.{_≡_}
 use lib.Dec.{eqb, ltb}
 use lib.ListN.{length, drop, replicate}
 use Rattle.answers.specs.Answers.{judged}
-use Rattle.command.specs.Headers.{macroblockHeader}
+use Rattle.headers.specs.Headers.{macroblockHeader}
 use Rattle.command.specs.Legal.{Words}
-use Rattle.command.specs.Macroblocks.{wordAt, macroblockOf, wordsOf}
+use Rattle.headers.specs.Words.{wordAt}
+use Rattle.command.specs.Macroblocks.{macroblockOf, wordsOf}
 use Rattle.command.specs.Rules.{commandRules}
 use Rattle.answers.specs.declared.Answer.{Answer}
 use Rattle.answers.specs.declared.Answer.the-variants.{Accepted, Refused}

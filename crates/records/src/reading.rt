@@ -11,7 +11,7 @@ pub fn read_command(words: &[u32], room: &mut [u8]) -> Answer
     if words.len() == 0 {
         return Answer::Refused(1, 0);
     }
-    if words[0] != command::MACROBLOCK_HEADER {
+    if words[0] != headers::MACROBLOCK_HEADER {
         return Answer::Refused(2, 0);
     }
     if words.len() < 9 {

@@ -7,7 +7,7 @@ use native.Mathlib.Omega.{arith}
 use native.Mathlib.Nat.{add-zero}
 use borrow.Author.Needs.{needs}
 use lib.ListN.{length, drop}
-use Rattle.command.specs.Macroblocks.{wordAt}
+use Rattle.headers.specs.Words.{wordAt}
 use Rattle.progress.specs.declared.Verdict.{Verdict}
 use Rattle.judging.proofs.JudgingLaws.{stops-within}
 use Rattle.batch.specs.Walk.{step, going, after}

@@ -2,7 +2,8 @@ use mathlib.Core.Path.{_≡_, sym, ap, ap₂, _∙_}
 use Rattle.answers.specs.Answers.{earlier, judged}
 use denote.Ref.{now}
 use Rattle.answers.proofs.Judging.{judged-append}
-use Rattle.command.specs.Macroblocks.{wordAt, macroblockOf}
+use Rattle.headers.specs.Words.{wordAt}
+use Rattle.command.specs.Macroblocks.{macroblockOf}
 use Rattle.command.specs.Rules.{keptBy, typePermitted, fixed1, fixed3, fixed4, fieldRules, vectorRules, copied, commandRules}
 use borrow.Author.Needs.{needs}
 use Rattle.command.proofs.rules.fault_of.Statement.{statement}

@@ -3,9 +3,9 @@ use mathlib.Core.List.{List}
 use Prim.Native.Nat.{ℕ}
 use denote.Ref.{now}
 use Rattle.answers.specs.declared.Answer.{Answer}
-use Rattle.command.specs.declared.Header.{Header}
-use Rattle.command.specs.declared.Header.the-variants.{Known}
-use Rattle.command.specs.declared.Opcode.{Opcode}
+use Rattle.headers.specs.declared.Header.{Header}
+use Rattle.headers.specs.declared.Header.the-variants.{Known}
+use Rattle.headers.specs.declared.Opcode.{Opcode}
 use Rattle.progress.specs.Progress.{concluded}
 use Rattle.progress.specs.declared.Progress.{Progress}
 use Rattle.judging.specs.Judging.{judge, rulesOf, nextOf}

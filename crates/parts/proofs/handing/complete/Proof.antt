@@ -5,8 +5,8 @@ use native.Mathlib.Omega.{arith}
 use borrow.Author.Needs.{needs}
 use lib.ListN.{length, take, length-map}
 use lib.Seq.{length-take-le}
-use Rattle.command.specs.Macroblocks.{wordAt}
-use Rattle.command.proofs.HeaderLaws.{words-few}
+use Rattle.headers.specs.Words.{wordAt}
+use Rattle.headers.proofs.HeaderLaws.{words-few}
 use Rattle.batch.specs.Walk.{going, step}
 use Rattle.parts.specs.States.{walkIn}
 use Rattle.parts.proofs.HeldLaws.{asked, held-fewer, from-held, held-completed, then-stopped, then-going, part-rest, filled}

@@ -1,6 +1,6 @@
 use mathlib.Core.Path.{sym, ap, _∙_}
 use borrow.Author.Needs.{needs}
-use Rattle.command.specs.Headers.{wordsIn}
+use Rattle.headers.specs.Headers.{wordsIn}
 use Rattle.parts.proofs.holding.command_words.Statement.{statement}
 use Rattle.parts.proofs.holding.command_words.Tie as tie
 

@@ -3,8 +3,8 @@ use Prim.Native.Nat.{ℕ, _≤_, _<_}
 use native.Mathlib.Omega.{arith}
 use borrow.Author.Needs.{needs}
 use lib.ListN.{length, length-map}
-use Rattle.command.specs.Macroblocks.{wordAt}
-use Rattle.command.proofs.HeaderLaws.{words-few}
+use Rattle.headers.specs.Words.{wordAt}
+use Rattle.headers.proofs.HeaderLaws.{words-few}
 use Rattle.parts.proofs.HeldLaws.{asked, ended-none, over-none, beyond-none, held-count}
 use Rattle.parts.proofs.holding.held_words.Statement.{statement}
 use Rattle.parts.proofs.holding.held_words.Tie as tie

@@ -2,8 +2,8 @@ use denote.Ref.{now}
 use lib.ListN.{List·getD-eq-default}
 use mathlib.Core.Path.{sym}
 use borrow.Author.Needs.{needs}
-use Rattle.command.proofs.reading.word_at.Statement.{statement}
-use Rattle.command.proofs.reading.word_at.Tie as tie
+use Rattle.headers.proofs.words.word_at.Statement.{statement}
+use Rattle.headers.proofs.words.word_at.Tie as tie
 
 mul-result : tie.Need-mul-result
 mul-result c = search needs

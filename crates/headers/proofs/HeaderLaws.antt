@@ -5,11 +5,11 @@ use mathlib.Core.Path.{_≡_, refl, sym, ap, subst, _∙_}
 use Prim.Native.Nat.{ℕ, _≤_}
 use native.Mathlib.Omega.{arith}
 use lib.Dec.{T, eqb, leb, leb→le, eqb→eq}
-use Rattle.command.specs.Headers.{Row, table, lookUp, headerOf, wordsIn}
-use Rattle.command.specs.declared.Header.{Header}
-use Rattle.command.specs.declared.Header.the-variants.{Known, Carried, Unknown}
-use Rattle.command.specs.declared.Opcode.{Opcode}
-use Rattle.command.specs.declared.Opcode.the-variants.{Noop, End, Surface, Picture, SliceGroup, Macroblock}
+use Rattle.headers.specs.Headers.{Row, table, lookUp, headerOf, wordsIn}
+use Rattle.headers.specs.declared.Header.{Header}
+use Rattle.headers.specs.declared.Header.the-variants.{Known, Carried, Unknown}
+use Rattle.headers.specs.declared.Opcode.{Opcode}
+use Rattle.headers.specs.declared.Opcode.the-variants.{Noop, End, Surface, Picture, SliceGroup, Macroblock}
 
 abbrev every : (Header → Bool) → List Row → Bool
 every f [] = f Unknown

@@ -2,7 +2,7 @@
 use crate::Header;
 use crate::Opcode;
 ghost use mathlib.Core.Path.{_≡_};
-ghost use Rattle.command.specs.Headers.{headerOf};
+ghost use Rattle.headers.specs.Headers.{headerOf};
 
 // What a word begins. The whole word must match.
 pub fn read_header(word: u32) -> Header

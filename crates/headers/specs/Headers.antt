@@ -3,10 +3,10 @@ use Prim.Native.Nat.{ℕ}
 use mathlib.Core.Bool.{Bool, false, cond}
 use mathlib.Core.List.{List, [], _∷_}
 use lib.Dec.{eqb}
-use Rattle.command.specs.declared.Header.{Header}
-use Rattle.command.specs.declared.Header.the-variants.{Known, Carried, Unknown}
-use Rattle.command.specs.declared.Opcode.{Opcode}
-use Rattle.command.specs.declared.Opcode.the-variants.{Noop, End, Surface, Picture, SliceGroup, Macroblock}
+use Rattle.headers.specs.declared.Header.{Header}
+use Rattle.headers.specs.declared.Header.the-variants.{Known, Carried, Unknown}
+use Rattle.headers.specs.declared.Opcode.{Opcode}
+use Rattle.headers.specs.declared.Opcode.the-variants.{Noop, End, Surface, Picture, SliceGroup, Macroblock}
 
 pub record Row : Type 0 where
   pub header : ℕ

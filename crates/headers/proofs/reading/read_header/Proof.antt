@@ -1,7 +1,7 @@
 use borrow.Author.Tests.{ne-eqb}
-use Rattle.command.specs.Headers.{headerOf, lookUp, table}
-use Rattle.command.proofs.headers.read_header.Statement.{statement}
-use Rattle.command.proofs.headers.read_header.Tie as tie
+use Rattle.headers.specs.Headers.{headerOf, lookUp, table}
+use Rattle.headers.proofs.reading.read_header.Statement.{statement}
+use Rattle.headers.proofs.reading.read_header.Tie as tie
 
 returns : tie.Need-returns
 unfolding headerOf lookUp table

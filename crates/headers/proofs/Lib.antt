@@ -1,0 +1,4 @@
+-- for the crates above
+pub mod HeaderLaws
+-- for this crate alone
+mod Worked
