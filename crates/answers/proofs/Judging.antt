@@ -14,7 +14,7 @@ use Rattle.answers.specs.declared.Answer.the-variants.{Accepted, Refused
 abbrev pub before : ℕ → ℕ → ℕ → ℕ → Bool
 before m q n p = ltb q p || (eqb q p && ltb m n)
 
-no : false ≡ true → ⊥
+pub no : false ≡ true → ⊥
 no e = subst T (sym e) tt
 
 is-before : (m q n p : ℕ) → before m q n p ≡ true → (q ≤ p) × (q ≡ p → m < n)

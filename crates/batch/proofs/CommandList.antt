@@ -6,8 +6,10 @@ use Prim.Native.Nat.{ℕ, zero, suc, _+_, _*_, _/_, _%_, _≤_, _<_}
 use native.Mathlib.Nat.{add-zero, zero-add}
 use native.Mathlib.Omega.{arith}
 use lib.ListN.{length, getD}
+use Rattle.fields.specs.Word.{flag}
 use Rattle.answers.specs.Answers.{judged}
 use Rattle.answers.specs.declared.Answer.the-variants.{Accepted}
+use Rattle.answers.proofs.Judging.{no}
 use Rattle.headers.specs.Headers.{begins}
 use Rattle.command.specs.Macroblocks.{macroblockOf}
 use Rattle.headers.specs.declared.Header.{Header}
@@ -24,7 +26,7 @@ use Rattle.judging.proofs.JudgingLaws.{goes-on}
 use Rattle.judging.proofs.SequenceLaws.{macroblock-rules, all-come, said-next, surface-once, picture-once, Sound, fresh-sound, countOf, sound-next}
 use Rattle.batch.specs.Commands.{Command, commandsOf, macroblocksIn, lastSaid, frameOf, pictureIn, InOrder, howMany}
 use Rattle.batch.specs.Walk.{going, step, start}
-use Rattle.batch.proofs.Runs.{no, Run, batch-runs}
+use Rattle.batch.proofs.Runs.{Run, batch-runs}
 
 -- A command that comes once and says something, as SURFACE and PICTURE do: how to read it off a progress, and what one command
 -- changes of it.
@@ -49,15 +51,12 @@ pictures-once =
       not-again = picture-once;
     }
 
-abbrev flag : Bool → ℕ
-flag b = cond b 1 0
-
 at-most : (b : Bool) → flag b + 0 ≤ 1
 at-most true = omega arith
 at-most false = omega arith
 
 counted-once : (before now b : Bool) (n : ℕ) → (before ≡ true → b ≡ false) → now ≡ cond b true before → flag now + n ≤ 1 → flag before + (flag b + n) ≤ 1
-counted-once true now true n h e l = absurd (no (h refl))
+counted-once true now true n h e l = absurd (no (sym (h refl)))
 counted-once true now false n h e l = let k : 1 + n ≤ 1 = rw e at l in omega arith
 counted-once false now true n h e l = let k : 1 + n ≤ 1 = rw e at l in omega arith
 counted-once false now false n h e l = let k : 0 + n ≤ 1 = rw e at l in omega arith
@@ -99,7 +98,7 @@ picture-kept = said-kept Picture pictureOf (λ p. p .picture) (λ p. p .stage .p
 
 -- Every progress on the way is sound, and the count is that of the list's MACROBLOCK commands.
 next-sound : (p : Progress) (c : Command) (t : Progress) → judge (c .header) p (c .words) ≡ Next t → Sound p
-    → Sound t × (countOf t ≡ countOf p + cond (begins Macroblock (c .header)) 1 0)
+    → Sound t × (countOf t ≡ countOf p + flag (begins Macroblock (c .header)))
 next-sound p c t j s =
     let n = goes-on (c .header) p (c .words) t j in
     rw (n .1) (sound-next (c .header) p (c .words) (n .0) s)
@@ -116,7 +115,7 @@ run-count p (c ∷ cs) q r s =
     run-count (r .0) cs q (r .2) (n .0) ∙ ap (λ (k : ℕ). k + length (macroblocksIn cs)) (n .1)
     ∙ by (begins Macroblock (c .header))
   where
-    by : (b : Bool) → countOf p + cond b 1 0 + length (macroblocksIn cs) ≡ countOf p + length (cond b (c .words ∷ macroblocksIn cs) (macroblocksIn cs))
+    by : (b : Bool) → countOf p + flag b + length (macroblocksIn cs) ≡ countOf p + length (cond b (c .words ∷ macroblocksIn cs) (macroblocksIn cs))
     by true = omega arith
     by false = omega arith
 

@@ -2,13 +2,14 @@
 use mathlib.Core.Bool.{Bool, true, false, cond}
 use mathlib.Core.List.{List, [], _∷_, _++_, foldl}
 use mathlib.Core.Logic.{inl, inr}
-use mathlib.Core.Path.{_≡_, refl, sym, subst, _∙_}
+use mathlib.Core.Path.{_≡_, refl, sym, _∙_}
 use Prim.Native.Nat.{ℕ, zero, _+_}
 use native.Mathlib.Nat.{add-zero}
 use native.Mathlib.Omega.{arith}
 use borrow.Author.Tests.{ltb-true, eqb-true}
-use lib.Dec.{T, eqb, leb, ltb}
+use lib.Dec.{eqb, leb, ltb}
 use lib.ListN.{length}
+use Rattle.answers.proofs.Judging.{no}
 use Rattle.headers.specs.Headers.{headerOf, wordsIn, lookUp, table}
 use Rattle.headers.specs.Words.{wordAt}
 use Rattle.headers.specs.declared.Header.{Header}
@@ -27,9 +28,6 @@ abbrev pub Run : Progress → List Command → Progress → Type 0
 Run p [] q = p ≡ q
 Run p (c ∷ cs) q = (t : Progress) × (judge (c .header) p (c .words) ≡ Next t) × Run t cs q
 
-pub no : true ≡ false → ⊥
-no e = subst T e tt
-
 refused : (n place : ℕ) (ws : List ℕ) {at : ℕ} {q : Progress} {g : List ℕ} → foldl step (stopped n place) ws ≡ going at q g → ⊥
 refused n place ws e = apart (sym (stays n place ws) ∙ e)
   where
@@ -44,7 +42,7 @@ behind-end at p q ws r = (p, noop-passes 1 p (0 ∷ []), r)
 -- nothing is in progress behind END
 none-held : (p : Progress) (g : List ℕ) → Short p g → p .stage .ended ≡ true → g ≡ []
 none-held p g (inl e) t = e
-none-held p g (inr h) t = absurd (no (sym t ∙ h .0))
+none-held p g (inr h) t = absurd (no (sym (h .0) ∙ t))
 
 module _ (w : ℕ) (ws : List ℕ) (at' : ℕ) (q : Progress) (g' : List ℕ)
     (rest : (at : ℕ) (p : Progress) (g : List ℕ) → Short p g → foldl step (going at p g) ws ≡ going at' q g' → Run p (cut at g ws) q) where

@@ -3,9 +3,9 @@ use Prim.Native.Nat.{ℕ, _+_, _/_, _%_}
 use mathlib.Core.Bool.{cond}
 use mathlib.Core.List.{List, [], _∷_, _++_}
 use mathlib.Core.Path.{_≡_}
-use lib.Dec.{eqb, ltb}
 use lib.ListN.{length}
-use Rattle.headers.specs.Headers.{headerOf, wordsIn, begins}
+use Rattle.fields.specs.Word.{flag}
+use Rattle.headers.specs.Headers.{headerOf, bySize, begins}
 use Rattle.headers.specs.Words.{wordAt}
 use Rattle.command.specs.Macroblocks.{macroblockOf}
 use Rattle.headers.specs.declared.Header.{Header}
@@ -31,10 +31,10 @@ command at h ws = record { place = at; header = h; words = ws }
 unfoldable pub cut : ℕ → List ℕ → List ℕ → List Command
 cut at g [] = []
 cut at g (w ∷ ws) =
-    cond (eqb (wordsIn (headerOf (wordAt (g ++ (w ∷ [])) 0))) 0) []
-    (cond (ltb (length (g ++ (w ∷ []))) (wordsIn (headerOf (wordAt (g ++ (w ∷ [])) 0))))
+    bySize (headerOf (wordAt (g ++ (w ∷ [])) 0)) (length (g ++ (w ∷ [])))
+    []
     (cut at (g ++ (w ∷ [])) ws)
-    (command at (headerOf (wordAt (g ++ (w ∷ [])) 0)) (g ++ (w ∷ [])) ∷ cut (at + length (g ++ (w ∷ []))) [] ws))
+    (command at (headerOf (wordAt (g ++ (w ∷ [])) 0)) (g ++ (w ∷ [])) ∷ cut (at + length (g ++ (w ∷ []))) [] ws)
 
 -- The commands of a batch.
 unfoldable pub commandsOf : List ℕ → List Command
@@ -65,4 +65,4 @@ InOrder w k (m ∷ ms) = (macroblockOf m .column ≡ k % w) × (macroblockOf m .
 -- How many commands of one kind there are.
 abbrev pub howMany : Opcode → List Command → ℕ
 howMany o [] = 0
-howMany o (c ∷ cs) = cond (begins o (c .header)) 1 0 + howMany o cs
+howMany o (c ∷ cs) = flag (begins o (c .header)) + howMany o cs

@@ -2,9 +2,9 @@
 use Prim.Native.Nat.{ℕ, _+_}
 use mathlib.Core.Bool.{cond}
 use mathlib.Core.List.{List, [], _∷_, _++_}
-use lib.Dec.{eqb, leb, ltb}
+use lib.Dec.{eqb, leb}
 use lib.ListN.{length, drop}
-use Rattle.headers.specs.Headers.{headerOf, wordsIn}
+use Rattle.headers.specs.Headers.{headerOf, bySize}
 use Rattle.headers.specs.Words.{wordAt}
 use Rattle.headers.specs.declared.Header.{Header}
 use Rattle.progress.specs.Progress.{fresh}
@@ -34,7 +34,10 @@ after at next (Stop n word) = stopped n (at + word)
 -- at once"; "Commands in order; in each 2, then 1, then 3, then words upwards": a command is judged when it is whole.
 abbrev pub settled : Header → ℕ → Progress → List ℕ → Walk
 settled h at p g =
-    cond (eqb (wordsIn h) 0) (stopped 2 at) (cond (ltb (length g) (wordsIn h)) (going at p g) (after at (at + length g) (judge h p g)))
+    bySize h (length g)
+    (stopped 2 at)
+    (going at p g)
+    (after at (at + length g) (judge h p g))
 
 -- One more word. "27 .. more than 4294967295 words, and the first 4294967295 alone give none of 2 to 12"; "After END only zero
 -- words may follow", else 12.

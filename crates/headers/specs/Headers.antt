@@ -2,7 +2,7 @@
 use Prim.Native.Nat.{ℕ}
 use mathlib.Core.Bool.{Bool, false, cond}
 use mathlib.Core.List.{List, [], _∷_}
-use lib.Dec.{eqb}
+use lib.Dec.{eqb, ltb}
 use Rattle.headers.specs.declared.Header.{Header}
 use Rattle.headers.specs.declared.Header.the-variants.{Known, Carried, Unknown}
 use Rattle.headers.specs.declared.Opcode.{Opcode}
@@ -48,6 +48,10 @@ abbrev pub wordsIn : Header → ℕ
 wordsIn (Known o n) = n
 wordsIn (Carried n) = n
 wordsIn Unknown = 0
+
+-- By how many words a command has, of which so many have come: the header names none; more are to come; it is whole.
+abbrev pub bySize : {A : Type 0} → Header → ℕ → A → A → A → A
+bySize h come none more whole = cond (eqb (wordsIn h) 0) none (cond (ltb come (wordsIn h)) more whole)
 
 -- Whether a header begins a known command of this kind.
 abbrev pub orderOf : Opcode → ℕ

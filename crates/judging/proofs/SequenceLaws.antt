@@ -1,16 +1,17 @@
 -- What each command that is not refused leaves as it was, and what holds of every progress that commands lead to.
-use mathlib.Core.Bool.{Bool, true, false, cond, not, _&&_}
+use mathlib.Core.Bool.{true, false, cond, not, _&&_}
 use mathlib.Core.List.{List}
 use mathlib.Core.Logic.{inl, ⊎-elim}
-use mathlib.Core.Path.{_≡_, refl, sym, ap, subst, _∙_}
+use mathlib.Core.Path.{_≡_, refl, sym, ap, _∙_}
 use Prim.Native.Nat.{ℕ, _+_, _*_, _≤_, _<_}
 use native.Mathlib.Nat.{add-zero, zero-mul}
 use native.Mathlib.Omega.{arith}
 use borrow.Author.Tests.{not-true, leb-true}
-use lib.Dec.{T, leb, ltb}
+use lib.Dec.{leb, ltb}
+use Rattle.fields.specs.Word.{flag}
 use Rattle.answers.specs.Answers.{judged}
 use Rattle.answers.specs.declared.Answer.the-variants.{Accepted}
-use Rattle.answers.proofs.Judging.{all-hold}
+use Rattle.answers.proofs.Judging.{no, all-hold}
 use Rattle.headers.specs.Headers.{begins}
 use Rattle.headers.specs.declared.Header.{Header}
 use Rattle.headers.specs.declared.Header.the-variants.{Known, Carried, Unknown}
@@ -50,9 +51,6 @@ said-next (Carried n) p ws = record { frame-said = refl; picture-said = refl; su
 said-next Unknown p ws = record { frame-said = refl; picture-said = refl; surface-come = refl; picture-come = refl }
 
 -- Once SURFACE has come, no other is accepted, and likewise PICTURE.
-no : false ≡ true → ⊥
-no e = subst T (sym e) tt
-
 pub surface-once : (h : Header) (p : Progress) (ws : List ℕ) → judged (rulesOf h p ws) ≡ Accepted → p .stage .surfaced ≡ true → begins Surface h ≡ false
 unfolding rulesOf
 surface-once (Known Noop n) p ws a s = refl
@@ -94,9 +92,6 @@ fresh-sound = record { group-pictured = λ e. e; pictured-surfaced = λ e. e; no
 abbrev pub countOf : Progress → ℕ
 countOf p = countBefore (p .picture .grid .columns) (p .position)
 
-abbrev one : Bool → ℕ
-one b = cond b 1 0
-
 macroblock-sound : (p q : Progress) → Sound p → Advances p q → p .stage .«in_group» ≡ true → p .position .row < p .picture .grid .rows
     → Sound q × (countOf q ≡ countOf p + 1)
 macroblock-sound p q s a g left =
@@ -116,7 +111,7 @@ macroblock-sound p q s a g left =
 
 -- Each command that is accepted keeps that, and only a macroblock counts.
 pub sound-next : (h : Header) (p : Progress) (ws : List ℕ) → judged (rulesOf h p ws) ≡ Accepted → Sound p
-    → Sound (nextOf h p ws) × (countOf (nextOf h p ws) ≡ countOf p + one (begins Macroblock h))
+    → Sound (nextOf h p ws) × (countOf (nextOf h p ws) ≡ countOf p + flag (begins Macroblock h))
 unfolding rulesOf nextOf surfaceNext pictureNext groupNext endNext
 sound-next (Known Noop n) p ws a s = (s, sym (add-zero (countOf p)))
 sound-next (Known End n) p ws a s =
