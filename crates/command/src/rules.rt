@@ -7,7 +7,7 @@ use crate::writing;
 use answers::Answer;
 ghost use mathlib.Core.Path.{_≡_};
 ghost use Rattle.answers.specs.Answers.{judged};
-ghost use Rattle.command.specs.Rules.{keptBy, zeroBits, typePermitted, fixed1, fixed3, fixed4, fieldRules, vectorRules, copied, commandRules};
+ghost use Rattle.command.specs.Rules.{keptBy, typePermitted, fixed1, fixed3, fixed4, fieldRules, vectorRules, copied, commandRules};
 
 // Which rules of the macroblock itself hold.
 pub fn kept_by(macroblock: Macroblock) -> Kept
@@ -26,13 +26,6 @@ pub fn kept_by(macroblock: Macroblock) -> Kept
         skip_inside_slice: !(skip & slice_end),
         skip_pattern: !skip | (pattern == 0),
     }
-}
-
-// Whether bits hi:lo are zero.
-fn zero_bits(word: u32, hi: u8, lo: u8) -> bool
-    ensures { λ r. ⌜ r ≡ zeroBits word hi lo ⌝ }
-{
-    fields::bits(word, hi, lo) == 0
 }
 
 fn type_permitted(word: u32) -> bool
@@ -79,9 +72,10 @@ fn field_fault(bits1: bool, typed: bool, bits3: bool, bits4: bool, kept: Kept) -
 fn words_fault(one: u32, three: u32, four: u32, kept: Kept) -> Answer
     ensures { λ r. ⌜ r ≡ judged (fieldRules (fixed1 one) (typePermitted one) (fixed3 three) (fixed4 four) kept) ⌝ }
 {
-    let bits1 = zero_bits(one, 15, 14) & (zero_bits(one, 7, 3) & zero_bits(one, 1, 0));
-    let bits3 = zero_bits(three, 15, 12) & zero_bits(three, 5, 0);
-    let bits4 = zero_bits(four, 29, 28) & zero_bits(four, 23, 5);
+    let bits1 = fields::has_bits(one, 15, 14, 0)
+        & (fields::has_bits(one, 7, 3, 0) & fields::has_bits(one, 1, 0, 0));
+    let bits3 = fields::has_bits(three, 15, 12, 0) & fields::has_bits(three, 5, 0, 0);
+    let bits4 = fields::has_bits(four, 29, 28, 0) & fields::has_bits(four, 23, 5, 0);
     field_fault(bits1, type_permitted(one), bits3, bits4, kept)
 }
 

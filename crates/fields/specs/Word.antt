@@ -18,6 +18,10 @@ abbrev pub withBits : ℕ → ℕ → ℕ → ℕ → ℕ
 withBits word hi lo value =
     word / 2 ^ (width hi lo + lo) * 2 ^ (width hi lo + lo) + value % 2 ^ width hi lo * 2 ^ lo + word % 2 ^ lo
 
+-- Whether bits hi:lo have a value, as document 01 writes "31:28 = 4".
+abbrev pub hasBits : ℕ → ℕ → ℕ → ℕ → Bool
+hasBits word hi lo value = eqb (bits word hi lo) value
+
 -- One bit as a flag, and a flag as a bit.
 abbrev pub isSet : ℕ → Bool
 isSet b = eqb b 1

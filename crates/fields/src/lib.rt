@@ -9,6 +9,7 @@ pub use bytes::number32;
 pub use word::bits;
 pub use word::flag_of;
 pub use word::halves_of;
+pub use word::has_bits;
 pub use word::is_set;
 pub use word::with_bits;
 pub use word::word_of_halves;

@@ -2,7 +2,7 @@
 use crate::Halves;
 ghost use mathlib.Core.Path.{_≡_};
 ghost use Prim.Native.Nat.{_-_, _^_, _≤_};
-ghost use Rattle.fields.specs.Word.{width, bits, withBits, isSet, flag, halvesOf, wordOfHalves};
+ghost use Rattle.fields.specs.Word.{width, bits, hasBits, withBits, isSet, flag, halvesOf, wordOfHalves};
 
 // How many bits hi:lo names.
 fn width_of(hi: u8, lo: u8) -> u8
@@ -40,6 +40,13 @@ pub fn bits(word: u32, hi: u8, lo: u8) -> u32
         return 0;
     }
     (word >> lo) & ones(n)
+}
+
+// Whether bits hi:lo have a value.
+pub fn has_bits(word: u32, hi: u8, lo: u8, value: u32) -> bool
+    ensures { λ r. ⌜ r ≡ hasBits word hi lo value ⌝ }
+{
+    bits(word, hi, lo) == value
 }
 
 // Whether a bit of a word is 1.

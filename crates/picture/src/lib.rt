@@ -1,5 +1,4 @@
 // What the SURFACE and PICTURE commands say, and the rules that they keep.
-mod fixed;
 mod pictures;
 mod surfaces;
 

@@ -2,7 +2,6 @@
 use crate::Codes;
 use crate::Frame;
 use crate::Picture;
-use crate::fixed;
 use answers::Answer;
 use prediction::Grid;
 ghost use mathlib.Core.Path.{_≡_};
@@ -40,8 +39,8 @@ pub fn picture_of(words: &[u32]) -> Picture
 fn picture_bits1(one: u32) -> bool
     ensures { λ r. ⌜ r ≡ pictureBits1 one ⌝ }
 {
-    let upper = fixed::has_bits(one, 13, 12, 3) & fixed::has_bits(one, 10, 10, 1);
-    let lower = fixed::has_bits(one, 9, 9, 0) & fixed::has_bits(one, 5, 0, 0);
+    let upper = fields::has_bits(one, 13, 12, 3) & fields::has_bits(one, 10, 10, 1);
+    let lower = fields::has_bits(one, 9, 9, 0) & fields::has_bits(one, 5, 0, 0);
     upper & lower
 }
 

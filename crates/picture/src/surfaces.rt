@@ -1,6 +1,5 @@
 // The words of a SURFACE command.
 use crate::Frame;
-use crate::fixed;
 use answers::Answer;
 use prediction::Surface;
 ghost use mathlib.Core.Path.{_≡_};
@@ -29,9 +28,9 @@ pub fn surface_of(words: &[u32]) -> Frame
 fn surface_bits3(three: u32) -> bool
     ensures { λ r. ⌜ r ≡ surfaceBits3 three ⌝ }
 {
-    let upper = fixed::has_bits(three, 31, 28, 4) & fixed::has_bits(three, 27, 27, 1);
-    let lower = fixed::has_bits(three, 2, 2, 0) & fixed::has_bits(three, 1, 0, 3);
-    upper & (fixed::has_bits(three, 26, 20, 0) & lower)
+    let upper = fields::has_bits(three, 31, 28, 4) & fields::has_bits(three, 27, 27, 1);
+    let lower = fields::has_bits(three, 2, 2, 0) & fields::has_bits(three, 1, 0, 3);
+    upper & (fields::has_bits(three, 26, 20, 0) & lower)
 }
 
 // The first rule that is broken, from whether each is kept.
@@ -62,9 +61,9 @@ pub fn surface_fault(words: &[u32]) -> Answer
 {
     let frame = surface_of(words);
     let bits1 = headers::word_at(words, 1) == 0;
-    let bits2 = fixed::has_bits(headers::word_at(words, 2), 3, 0, 0);
+    let bits2 = fields::has_bits(headers::word_at(words, 2), 3, 0, 0);
     let bits3 = surface_bits3(headers::word_at(words, 3));
     let pitch = frame.surface.pitch % 128 == 0;
-    let bits4 = fixed::has_bits(headers::word_at(words, 4), 31, 15, 0);
+    let bits4 = fields::has_bits(headers::word_at(words, 4), 31, 15, 0);
     surface_broken(bits1, bits2, bits3, pitch, bits4)
 }
