@@ -210,37 +210,44 @@ pub hold-each : (rs ss : List Rule) → Hold (rs ++ ss) → Hold rs × Hold ss
 hold-each [] ss h = (tt, h)
 hold-each (r ∷ rs) ss h = let k = hold-each rs ss (h .1) in ((h .0, k .0), k .1)
 
--- A table whose rules have places up to n refuses at one of them.
-abbrev pub within : ℕ → List Rule → Bool
-within n [] = true
-within n (r ∷ rs) = leb (r .place) n && within n rs
+-- A table whose rules have numbers from 1 to m and places up to n refuses with such a number and place.
+abbrev pub within : ℕ → ℕ → List Rule → Bool
+within m n [] = true
+within m n (r ∷ rs) = (leb 1 (r .number) && leb (r .number) m) && (leb (r .place) n && within m n rs)
 
-abbrev Within : ℕ → Answer → Type 0
-Within n Accepted = Unit {0}
-Within n (Refused m p) = p ≤ n
+abbrev pub Within : ℕ → ℕ → Answer → Type 0
+Within m n Accepted = Unit {0}
+Within m n (Refused k p) = (1 ≤ k) × (k ≤ m) × (p ≤ n)
 
-within-either : (n : ℕ) (t : Bool) (a b : Answer) → Within n a → Within n b → Within n (cond t a b)
-within-either n true a b x y = x
-within-either n false a b x y = y
+within-either : (m n : ℕ) (t : Bool) (a b : Answer) → Within m n a → Within m n b → Within m n (cond t a b)
+within-either m n true a b x y = x
+within-either m n false a b x y = y
 
-within-earlier : (n : ℕ) (a b : Answer) → Within n a → Within n b → Within n (earlier a b)
-within-earlier n Accepted b x y = y
-within-earlier n (Refused m p) Accepted x y = x
-within-earlier n (Refused m p) (Refused k q) x y = within-either n (before k q m p) (Refused k q) (Refused m p) y x
+within-earlier : (m n : ℕ) (a b : Answer) → Within m n a → Within m n b → Within m n (earlier a b)
+within-earlier m n Accepted b x y = y
+within-earlier m n (Refused j p) Accepted x y = x
+within-earlier m n (Refused j p) (Refused k q) x y = within-either m n (before k q j p) (Refused k q) (Refused j p) y x
 
-within-judged : (n : ℕ) (rs : List Rule) → T (within n rs) → Within n (judged rs)
-within-judged n [] t = tt
-within-judged n (r ∷ rs) t =
-    let h = both (leb (r .place) n) (within n rs) t in
-    within-earlier n (answerBy r) (judged rs)
-    (within-either n (r .holds) Accepted (Refused (r .number) (r .place)) tt (leb→le (r .place) n (h .0))) (within-judged n rs (h .1))
+within-judged : (m n : ℕ) (rs : List Rule) → T (within m n rs) → Within m n (judged rs)
+within-judged m n [] t = tt
+within-judged m n (r ∷ rs) t =
+    let h = both (leb 1 (r .number) && leb (r .number) m) (leb (r .place) n && within m n rs) t in
+    let k = both (leb 1 (r .number)) (leb (r .number) m) (h .0) in
+    let p = both (leb (r .place) n) (within m n rs) (h .1) in
+    within-earlier m n (answerBy r) (judged rs)
+    (within-either m n (r .holds) Accepted (Refused (r .number) (r .place)) tt (leb→le 1 (r .number) (k .0), leb→le (r .number) m (k .1), leb→le (r .place) n (p .0)))
+    (within-judged m n rs (p .1))
 
-pub judged-within : (n : ℕ) (rs : List Rule) {m p : ℕ} → T (within n rs) → judged rs ≡ Refused m p → p ≤ n
-judged-within n rs t e = subst (Within n) e (within-judged n rs t)
+pub judged-within : (m n : ℕ) (rs : List Rule) {k p : ℕ} → T (within m n rs) → judged rs ≡ Refused k p → (1 ≤ k) × (k ≤ m) × (p ≤ n)
+judged-within m n rs t e = subst (Within m n) e (within-judged m n rs t)
 
-pub within-both : (n : ℕ) (rs ss : List Rule) → T (within n rs) → T (within n ss) → T (within n (rs ++ ss))
-within-both n [] ss t u = u
-within-both n (r ∷ rs) ss t u = let h = both (leb (r .place) n) (within n rs) t in together (leb (r .place) n) (within n (rs ++ ss)) (h .0) (within-both n rs ss (h .1) u)
+pub within-both : (m n : ℕ) (rs ss : List Rule) → T (within m n rs) → T (within m n ss) → T (within m n (rs ++ ss))
+within-both m n [] ss t u = u
+within-both m n (r ∷ rs) ss t u =
+    let h = both (leb 1 (r .number) && leb (r .number) m) (leb (r .place) n && within m n rs) t in
+    let p = both (leb (r .place) n) (within m n rs) (h .1) in
+    together (leb 1 (r .number) && leb (r .number) m) (leb (r .place) n && within m n (rs ++ ss)) (h .0)
+    (together (leb (r .place) n) (within m n (rs ++ ss)) (p .0) (within-both m n rs ss (p .1) u))
   where
     together : (a b : Bool) → T a → T b → T (a && b)
     together true b t u = u

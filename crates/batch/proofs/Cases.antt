@@ -22,7 +22,7 @@ use Rattle.macroblocks.specs.Progressing.{positionAfter, stageAfter, extentsAft
 use Rattle.judging.specs.Sequence.{surfaceNext, pictureNext, groupNext, endNext}
 use Rattle.judging.specs.Judging.{rulesOf, nextOf, judge}
 use Rattle.batch.specs.Walk.{after, step}
-use Rattle.batch.specs.Reports.{numberOf, placeOf, reportedOf, bufferRules, measured, finish, report}
+use Rattle.batch.specs.Reports.{numberOf, placeOf, reportedOf, bufferRules, measured, verdictOf, report}
 use Rattle.batch.specs.declared.Lengths.{Lengths}
 use Rattle.batch.specs.declared.Report.{Report}
 
@@ -143,7 +143,7 @@ expected k = (k .number ∷ k .place ∷ k .reported) ∷ k .records
 -- To see which number differs, put one case in place of `cases`, as `take 1 (drop 9 cases)` for P10.
 every-case : map answered cases ≡ map expected cases
 unfolding cases p1 moved
-    report finish measured bufferRules step after
+    report verdictOf measured bufferRules step after
     judge rulesOf nextOf surfaceNext pictureNext groupNext endNext
     macroblockRules placedRules placedBy macroblockNext progressAfter extentsAfter stageAfter positionAfter
     blocksOf predicted forwardOf backwardOf fresh

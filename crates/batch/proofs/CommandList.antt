@@ -97,7 +97,7 @@ pub picture-kept : (p : Progress) (cs : List Command) (q : Progress) → Run p c
 picture-kept = said-kept Picture pictureOf (λ p. p .picture) (λ p. p .stage .pictured) pictures-once
 
 -- Every progress on the way is sound, and the count is that of the list's MACROBLOCK commands.
-next-sound : (p : Progress) (c : Command) (t : Progress) → judge (c .header) p (c .words) ≡ Next t → Sound p
+pub next-sound : (p : Progress) (c : Command) (t : Progress) → judge (c .header) p (c .words) ≡ Next t → Sound p
     → Sound t × (countOf t ≡ countOf p + flag (begins Macroblock (c .header)))
 next-sound p c t j s =
     let n = goes-on (c .header) p (c .words) t j in

@@ -1,3 +1,5 @@
 pub mod Commands
+pub mod Demand
 pub mod Reports
+pub mod Touched
 pub mod Walk

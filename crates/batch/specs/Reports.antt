@@ -1,13 +1,16 @@
 -- What the checker answers, in document 01's numbers, places and lengths.
 use Prim.Native.Nat.{ℕ, _+_}
 use mathlib.Core.Bool.{cond}
-use mathlib.Core.List.{List, [], _∷_, foldl}
+use mathlib.Core.List.{List, [], _∷_, foldl, map}
 use lib.Dec.{leb}
 use lib.ListN.{length}
 use Rattle.answers.specs.Answers.{Rule, rule, judged}
 use Rattle.answers.specs.declared.Answer.{Answer}
 use Rattle.answers.specs.declared.Answer.the-variants.{Accepted, Refused}
+use Rattle.progress.specs.Buffers.{Buffer, source, reconstructed, forward, backward, bufferNumber, buffers, extentOf}
 use Rattle.progress.specs.declared.Extents.{Extents}
+use Rattle.progress.specs.declared.Verdict.{Verdict}
+use Rattle.progress.specs.declared.Verdict.the-variants.{Next, Stop}
 use Rattle.batch.specs.declared.Lengths.{Lengths}
 use Rattle.batch.specs.declared.Report.{Report}
 use Rattle.batch.specs.declared.Report.the-variants as answers
@@ -24,9 +27,9 @@ placeOf (answers.Accepted e) = 0
 placeOf (answers.Short n place e) = place
 placeOf (answers.Refused n place) = place
 
--- The four lengths: "0 source, 1 reconstructed, 2 forward reference, 3 backward reference".
+-- The four lengths, in the order of the buffers.
 abbrev pub lengthsIn : Extents → List ℕ
-lengthsIn e = e .source .end ∷ e .reconstructed .end ∷ e .forward .end ∷ e .backward .end ∷ []
+lengthsIn e = map (λ b. extentOf b e .end) buffers
 
 -- "The four lengths are reported with 0, 13 and 14, else zeros."
 abbrev pub reportedOf : Report → List ℕ
@@ -34,14 +37,16 @@ reportedOf (answers.Accepted e) = lengthsIn e
 reportedOf (answers.Short n place e) = lengthsIn e
 reportedOf (answers.Refused n place) = 0 ∷ 0 ∷ 0 ∷ 0 ∷ []
 
+-- How long a buffer is.
+abbrev pub lengthOf : Buffer → Lengths → ℕ
+lengthOf source l = l .source
+lengthOf reconstructed l = l .reconstructed
+lengthOf forward l = l .forward
+lengthOf backward l = l .backward
+
 -- "13 buffer too short: lowest such buffer". The place of these rules is the buffer.
 unfoldable pub bufferRules : Extents → Lengths → List Rule
-bufferRules e l =
-    rule 13 0 (leb (e .source .end) (l .source))
-    ∷ rule 13 1 (leb (e .reconstructed .end) (l .reconstructed))
-    ∷ rule 13 2 (leb (e .forward .end) (l .forward))
-    ∷ rule 13 3 (leb (e .backward .end) (l .backward))
-    ∷ []
+bufferRules e l = map (λ b. rule 13 (bufferNumber b) (leb (extentOf b e .end) (lengthOf b l))) buffers
 
 -- What is answered with what is touched.
 abbrev pub reporting : Extents → Answer → Report
@@ -51,11 +56,23 @@ reporting e (Refused n place) = answers.Short n place e
 unfoldable pub measured : Extents → Lengths → Report
 measured e l = reporting e (judged (bufferRules e l))
 
--- "13 comes after the whole batch"; "1 words run out in a command or before END: words given".
-unfoldable pub finish : Lengths → Walk → Report
-finish l (stopped n place) = answers.Refused n place
-finish l (going at p g) = cond (p .stage .ended) (measured (p .extents) l) (answers.Refused 1 (at + length g))
+-- The buffers apart: the first rule that is broken, or how far the batch had come with END. "1 words run out in a command or before
+-- END: words given".
+abbrev pub ending : Walk → Verdict
+ending (stopped n place) = Stop n place
+ending (going at p g) = cond (p .stage .ended) (Next p) (Stop 1 (at + length g))
 
--- The answer to all words of a batch, taken whole.
+-- "13 comes after the whole batch".
+abbrev pub concluding : Lengths → Verdict → Report
+concluding l (Next p) = measured (p .extents) l
+concluding l (Stop n place) = answers.Refused n place
+
+unfoldable pub finish : Lengths → Walk → Report
+finish l w = concluding l (ending w)
+
+-- What all words of a batch come to, the buffers apart; and the answer to them, taken whole.
+unfoldable pub verdictOf : List ℕ → Verdict
+verdictOf ws = ending (foldl step start ws)
+
 unfoldable pub report : Lengths → List ℕ → Report
-report l ws = finish l (foldl step start ws)
+report l ws = concluding l (verdictOf ws)

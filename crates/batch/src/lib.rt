@@ -4,6 +4,7 @@ mod reporting;
 mod walking;
 
 pub use checking::check;
+pub use checking::judge_batch;
 use progress::Extents;
 use progress::Progress;
 pub use reporting::report_of;

@@ -311,7 +311,7 @@ module _ (ws : List ℕ) (c : Command ws) where
       let listed : wordsOf (macroblockOf ws) ≡ elements ws 0 9 = cc in
       listed ∙ elements-all ws 9 (c .nine)
 
--- The rules of a command alone refuse at its words 1 to 8.
-pub command-within : (ws : List ℕ) → T (within 8 (commandRules ws))
+-- The rules of a command alone refuse with numbers 1 to 12, at its words 1 to 8.
+pub command-within : (ws : List ℕ) → T (within 12 8 (commandRules ws))
 unfolding commandRules fieldRules vectorRules
 command-within ws = tt

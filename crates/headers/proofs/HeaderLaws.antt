@@ -1,11 +1,12 @@
--- How many words commands have, by a test of the table's rows.
-use mathlib.Core.Bool.{Bool, true, false, cond, _&&_}
+-- How many words commands have, and which word begins MACROBLOCK, by tests of the table's rows.
+use mathlib.Core.Bool.{Bool, true, false, cond, not, _&&_, _||_}
 use mathlib.Core.List.{List, [], _∷_}
 use mathlib.Core.Path.{_≡_, refl, sym, ap, subst, _∙_}
 use Prim.Native.Nat.{ℕ, _≤_}
 use native.Mathlib.Omega.{arith}
+use borrow.Author.Tests.{eqb-true}
 use lib.Dec.{T, eqb, leb, leb→le, eqb→eq}
-use Rattle.headers.specs.Headers.{Row, table, lookUp, headerOf, wordsIn}
+use Rattle.headers.specs.Headers.{Row, macroblockHeader, table, lookUp, headerOf, wordsIn, begins}
 use Rattle.headers.specs.declared.Header.{Header}
 use Rattle.headers.specs.declared.Header.the-variants.{Known, Carried, Unknown}
 use Rattle.headers.specs.declared.Opcode.{Opcode}
@@ -79,3 +80,36 @@ all-sized w = every-header sized w tt
 
 pub macroblock-size : (w n : ℕ) → headerOf w ≡ Known Macroblock n → n ≡ 9
 macroblock-size w n e = eqb→eq n 9 (subst (λ (h : Header). T (sized h)) e (all-sized w))
+
+-- the rows that begin MACROBLOCK have one word
+abbrev one-word : List Row → Bool
+one-word [] = true
+one-word (r ∷ rs) = (not (begins Macroblock (r .begins)) || eqb (r .header) macroblockHeader) && one-word rs
+
+its-word : (rs : List Row) (w : ℕ) → T (one-word rs) → T (begins Macroblock (lookUp rs w)) → w ≡ macroblockHeader
+unfolding lookUp
+its-word [] w t b = absurd b
+its-word (r ∷ rs) w t b =
+    let h = both (not (begins Macroblock (r .begins)) || eqb (r .header) macroblockHeader) (one-word rs) t in
+    by (eqb w (r .header)) refl (its-word rs w (h .1)) (h .0) b
+  where
+    row-word : (m : Bool) → T (not m || eqb (r .header) macroblockHeader) → T m → r .header ≡ macroblockHeader
+    row-word true t b = eqb→eq (r .header) macroblockHeader t
+    row-word false t b = absurd b
+
+    by : (s : Bool) → eqb w (r .header) ≡ s
+        → (T (begins Macroblock (lookUp rs w)) → w ≡ macroblockHeader)
+        → T (not (begins Macroblock (r .begins)) || eqb (r .header) macroblockHeader)
+        → T (begins Macroblock (cond s (r .begins) (lookUp rs w)))
+        → w ≡ macroblockHeader
+    by true e rest t b = eqb-true w (r .header) e ∙ row-word (begins Macroblock (r .begins)) t b
+    by false e rest t b = rest b
+
+-- A word that begins MACROBLOCK is its header, and the command has nine words.
+pub macroblock-word : (w : ℕ) → begins Macroblock (headerOf w) ≡ true → w ≡ macroblockHeader
+unfolding headerOf table
+macroblock-word w b = its-word table w tt (subst T (sym b) tt)
+
+pub macroblock-words : (w : ℕ) → begins Macroblock (headerOf w) ≡ true → wordsIn (headerOf w) ≡ 9
+unfolding headerOf lookUp table
+macroblock-words w b = ap (λ (x : ℕ). wordsIn (headerOf x)) (macroblock-word w b)

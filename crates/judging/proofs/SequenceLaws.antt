@@ -11,15 +11,15 @@ use lib.Dec.{leb, ltb}
 use Rattle.fields.specs.Word.{flag}
 use Rattle.answers.specs.Answers.{judged}
 use Rattle.answers.specs.declared.Answer.the-variants.{Accepted}
-use Rattle.answers.proofs.Judging.{no, all-hold}
+use Rattle.answers.proofs.Judging.{no, all-hold, none-broken}
 use Rattle.headers.specs.Headers.{begins}
 use Rattle.headers.specs.declared.Header.{Header}
 use Rattle.headers.specs.declared.Header.the-variants.{Known, Carried, Unknown}
 use Rattle.headers.specs.declared.Opcode.the-variants.{Noop, End, Surface, Picture, SliceGroup, Macroblock}
 use Rattle.command.proofs.CaseLaws.{and-left, and-right}
-use Rattle.picture.specs.Pictures.{pictureOf}
+use Rattle.picture.specs.Pictures.{pictureOf, pictureRules}
 use Rattle.picture.specs.Surfaces.{surfaceOf}
-use Rattle.picture.proofs.PictureLaws.{some-columns, some-rows}
+use Rattle.picture.proofs.PictureLaws.{some-columns, some-rows, wide}
 use Rattle.progress.specs.Progress.{fresh}
 use Rattle.progress.specs.declared.Progress.{Progress}
 use Rattle.progress.specs.declared.Verdict.the-variants.{Next}
@@ -75,18 +75,20 @@ picture-once (Carried n) p ws a s = refl
 picture-once Unknown p ws a s = refl
 
 -- What holds of every progress: a group is open only after PICTURE, which comes after SURFACE; before PICTURE no macroblock has
--- come; after it the next one is in a column of the picture, and no more than W·H come; after END they have all come.
+-- come; after it the pitch holds a macroblock, the next one is in a column of the picture, and no more than W·H come; after END
+-- they have all come.
 pub record Sound (p : Progress) : Type 0 where
   pub group-pictured : p .stage .«in_group» ≡ true → p .stage .pictured ≡ true
   pub pictured-surfaced : p .stage .pictured ≡ true → p .stage .surfaced ≡ true
   pub none-yet : p .stage .pictured ≡ false → (p .position .column ≡ 0) × (p .position .row ≡ 0)
+  pub wide : p .stage .pictured ≡ true → 16 ≤ p .frame .surface .pitch
   pub in-row : p .stage .pictured ≡ true → p .position .column < p .picture .grid .columns
   pub reached : p .stage .pictured ≡ true → Reached (p .picture .grid) (p .position)
   pub ended-full : p .stage .ended ≡ true → (p .stage .pictured ≡ true) × (p .picture .grid .rows ≤ p .position .row)
 
 pub fresh-sound : Sound fresh
 unfolding fresh
-fresh-sound = record { group-pictured = λ e. e; pictured-surfaced = λ e. e; none-yet = λ e. (refl, refl); in-row = λ e. absurd (no e); reached = λ e. absurd (no e); ended-full = λ e. absurd (no e) }
+fresh-sound = record { group-pictured = λ e. e; pictured-surfaced = λ e. e; none-yet = λ e. (refl, refl); wide = λ e. absurd (no e); in-row = λ e. absurd (no e); reached = λ e. absurd (no e); ended-full = λ e. absurd (no e) }
 
 -- How many macroblocks have come.
 abbrev pub countOf : Progress → ℕ
@@ -102,6 +104,7 @@ macroblock-sound p q s a g left =
         group-pictured = λ e. a .pictured-stays ∙ pictured;
         pictured-surfaced = λ e. a .surfaced-stays ∙ surfaced;
         none-yet = λ e. absurd (no (sym e ∙ a .pictured-stays ∙ pictured));
+        wide = λ e. simp (a .frame-stays) (s .wide pictured);
         in-row = λ e. simp (a .moved, a .picture-stays) (n .0);
         reached = λ e. simp (a .moved, a .picture-stays) (next-reached (p .picture .grid) (p .position) left);
         ended-full = λ e. let f = s .ended-full (sym (a .ended-stays) ∙ e) .1 in absurd (omega arith);
@@ -124,6 +127,7 @@ sound-next (Known End n) p ws a s =
         group-pictured = s .group-pictured;
         pictured-surfaced = s .pictured-surfaced;
         none-yet = s .none-yet;
+        wide = s .wide;
         in-row = s .in-row;
         reached = s .reached;
         ended-full = λ e. (pictured, full);
@@ -131,7 +135,18 @@ sound-next (Known End n) p ws a s =
       sym (add-zero (countOf p)),
     )
 sound-next (Known Surface n) p ws a s =
-    (record { group-pictured = s .group-pictured; pictured-surfaced = λ e. refl; none-yet = s .none-yet; in-row = s .in-row; reached = s .reached; ended-full = s .ended-full }, sym (add-zero (countOf p)))
+    let not-yet = not-true (p .stage .surfaced) (all-hold (rulesOf (Known Surface n) p ws) a .0) in (
+      record {
+        group-pictured = s .group-pictured;
+        pictured-surfaced = λ e. refl;
+        none-yet = s .none-yet;
+        wide = λ e. absurd (no (sym not-yet ∙ s .pictured-surfaced e));
+        in-row = s .in-row;
+        reached = s .reached;
+        ended-full = s .ended-full;
+      },
+      sym (add-zero (countOf p)),
+    )
 sound-next (Known Picture n) p ws a s =
     let h = all-hold (rulesOf (Known Picture n) p ws) a .0 in
     let surfaced = and-left (p .stage .surfaced) (not (p .stage .pictured)) h in
@@ -140,6 +155,7 @@ sound-next (Known Picture n) p ws a s =
         group-pictured = λ e. refl;
         pictured-surfaced = λ e. surfaced;
         none-yet = λ e. z;
+        wide = λ e. wide (p .frame) ws (none-broken (pictureRules (p .frame) ws) (all-hold (rulesOf (Known Picture n) p ws) a .1));
         in-row = λ e. rw (z .0) (some-columns ws);
         reached = λ e. inl (rw (z .1) (some-rows ws));
         ended-full = λ e. absurd (no (sym (not-true (p .stage .pictured) (and-right (p .stage .surfaced) (not (p .stage .pictured)) h)) ∙ s .ended-full e .0));
@@ -149,8 +165,18 @@ sound-next (Known Picture n) p ws a s =
 sound-next (Known SliceGroup n) p ws a s =
     let g = p .picture .grid in
     let h = all-hold (rulesOf (Known SliceGroup n) p ws) a .0 in
-    let pictured = and-left (p .stage .pictured) (not (p .stage .«in_group»)) (and-left (p .stage .pictured && not (p .stage .«in_group»)) (ltb (p .position .row) (g .rows)) h) in
-    (record { group-pictured = λ e. pictured; pictured-surfaced = s .pictured-surfaced; none-yet = s .none-yet; in-row = s .in-row; reached = s .reached; ended-full = s .ended-full }, sym (add-zero (countOf p)))
+    let pictured = and-left (p .stage .pictured) (not (p .stage .«in_group»)) (and-left (p .stage .pictured && not (p .stage .«in_group»)) (ltb (p .position .row) (g .rows)) h) in (
+      record {
+        group-pictured = λ e. pictured;
+        pictured-surfaced = s .pictured-surfaced;
+        none-yet = s .none-yet;
+        wide = s .wide;
+        in-row = s .in-row;
+        reached = s .reached;
+        ended-full = s .ended-full;
+      },
+      sym (add-zero (countOf p)),
+    )
 sound-next (Known Macroblock n) p ws a s = macroblock-sound p (macroblockNext p ws) s (advances p ws) (in-group p ws a) (row-left p ws a)
 sound-next (Carried n) p ws a s = (s, sym (add-zero (countOf p)))
 sound-next Unknown p ws a s = (s, sym (add-zero (countOf p)))
@@ -177,3 +203,26 @@ macroblock-rules (Known SliceGroup n) p ws b a = absurd (no b)
 macroblock-rules (Known Macroblock n) p ws b a = a
 macroblock-rules (Carried n) p ws b a = absurd (no b)
 macroblock-rules Unknown p ws b a = absurd (no b)
+
+-- A command that begins MACROBLOCK changes the progress as a macroblock does, and no other touches a byte.
+pub macroblock-next : (h : Header) (p : Progress) (ws : List ℕ) → begins Macroblock h ≡ true → nextOf h p ws ≡ macroblockNext p ws
+unfolding nextOf
+macroblock-next (Known Noop n) p ws b = absurd (no b)
+macroblock-next (Known End n) p ws b = absurd (no b)
+macroblock-next (Known Surface n) p ws b = absurd (no b)
+macroblock-next (Known Picture n) p ws b = absurd (no b)
+macroblock-next (Known SliceGroup n) p ws b = absurd (no b)
+macroblock-next (Known Macroblock n) p ws b = refl
+macroblock-next (Carried n) p ws b = absurd (no b)
+macroblock-next Unknown p ws b = absurd (no b)
+
+pub others-touch-nothing : (h : Header) (p : Progress) (ws : List ℕ) → begins Macroblock h ≡ false → nextOf h p ws .extents ≡ p .extents
+unfolding nextOf surfaceNext pictureNext groupNext endNext
+others-touch-nothing (Known Noop n) p ws b = refl
+others-touch-nothing (Known End n) p ws b = refl
+others-touch-nothing (Known Surface n) p ws b = refl
+others-touch-nothing (Known Picture n) p ws b = refl
+others-touch-nothing (Known SliceGroup n) p ws b = refl
+others-touch-nothing (Known Macroblock n) p ws b = absurd (no (sym b))
+others-touch-nothing (Carried n) p ws b = refl
+others-touch-nothing Unknown p ws b = refl

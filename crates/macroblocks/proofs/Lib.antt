@@ -1,3 +1,4 @@
 -- for the crates above
 pub mod MacroblockLaws
 pub mod PositionLaws
+pub mod TouchLaws

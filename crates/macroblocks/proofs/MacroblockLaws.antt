@@ -7,7 +7,7 @@ use lib.Dec.{T, ltb}
 use Rattle.answers.specs.Answers.{earlier, judged}
 use Rattle.answers.specs.declared.Answer.{Answer}
 use Rattle.answers.specs.declared.Answer.the-variants.{Accepted}
-use Rattle.answers.proofs.Judging.{judged-append, all-hold, within, within-both}
+use Rattle.answers.proofs.Judging.{judged-append, all-hold, none-broken, hold-each, within, within-both}
 use Rattle.command.specs.Macroblocks.{macroblockOf}
 use Rattle.command.specs.Rules.{commandRules}
 use Rattle.command.specs.declared.Macroblock.{Macroblock}
@@ -44,7 +44,14 @@ row-left p ws e =
     let g = p .stage .«in_group» in
     ltb-true (p .position .row) (p .picture .grid .rows) (and-right g (ltb (p .position .row) (p .picture .grid .rows)) (all-hold (macroblockRules p ws) e .0))
 
--- The rules refuse at words 0 to 8.
-pub macroblock-within : (p : Progress) (ws : List ℕ) → T (within 8 (macroblockRules p ws))
+-- A macroblock that is accepted keeps the rules of a command read alone.
+pub alone-kept : (p : Progress) (ws : List ℕ) → judged (macroblockRules p ws) ≡ Accepted → judged (commandRules ws) ≡ Accepted
+unfolding macroblockRules
+alone-kept p ws e =
+    let placed = placedRules (placedBy p (blocksOf p (macroblockOf ws .case)) (macroblockOf ws) ws) in
+    none-broken (commandRules ws) (hold-each placed (commandRules ws) (all-hold (macroblockRules p ws) e) .1)
+
+-- The rules refuse with numbers 1 to 12, at words 0 to 8.
+pub macroblock-within : (p : Progress) (ws : List ℕ) → T (within 12 8 (macroblockRules p ws))
 unfolding macroblockRules placedRules
-macroblock-within p ws = within-both 8 (placedRules (placedBy p (blocksOf p (macroblockOf ws .case)) (macroblockOf ws) ws)) (commandRules ws) tt (command-within ws)
+macroblock-within p ws = within-both 12 8 (placedRules (placedBy p (blocksOf p (macroblockOf ws .case)) (macroblockOf ws) ws)) (commandRules ws) tt (command-within ws)

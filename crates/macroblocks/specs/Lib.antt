@@ -1,3 +1,4 @@
 pub mod Blocks
 pub mod Placing
 pub mod Progressing
+pub mod Touching

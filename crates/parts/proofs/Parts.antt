@@ -2,7 +2,7 @@
 use mathlib.Core.List.{List, [], _∷_, foldl, foldl-append, flatten}
 use mathlib.Core.Path.{_≡_, sym, _∙_, ap}
 use Prim.Native.Nat.{ℕ}
-use Rattle.batch.specs.Reports.{numberOf, placeOf, reportedOf, finish, report}
+use Rattle.batch.specs.Reports.{numberOf, placeOf, reportedOf, finish, verdictOf, report}
 use Rattle.batch.specs.Walk.{Walk, step}
 use Rattle.batch.specs.declared.Lengths.{Lengths}
 use Rattle.batch.specs.declared.Report.{Report}
@@ -28,7 +28,7 @@ along s (part ∷ parts) r h =
 -- 4294967295 words in all), and every state so handed over.
 pub parts-whole : (l : Lengths) (parts : List (List ℕ)) (s : State) (r : Report) → HandedOver l parts s → Answered s r
     → r ≡ report l (flatten parts)
-unfolding report
+unfolding report verdictOf finish
 parts-whole l parts s r h answered =
     let begun = h .1 in
     let rest = along (h .0) parts s (h .2) in

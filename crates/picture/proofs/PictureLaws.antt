@@ -1,19 +1,25 @@
 -- What holds of the tables, and of what PICTURE says.
+use mathlib.Core.Bool.{_&&_}
 use mathlib.Core.List.{List}
-use Prim.Native.Nat.{ℕ, _≤_}
+use mathlib.Core.Path.{_≡_}
+use Prim.Native.Nat.{ℕ, _*_, _≤_}
 use native.Mathlib.Omega.{arith}
-use lib.Dec.{T}
-use Rattle.answers.proofs.Judging.{within}
-use Rattle.picture.specs.Pictures.{pictureOf, pictureTable, pictureRules}
+use borrow.Author.Tests.{leb-true}
+use lib.Dec.{T, leb}
+use Rattle.answers.specs.Answers.{judged}
+use Rattle.answers.specs.declared.Answer.the-variants.{Accepted}
+use Rattle.answers.proofs.Judging.{all-hold, within}
+use Rattle.command.proofs.CaseLaws.{and-left, and-right}
+use Rattle.picture.specs.Pictures.{pictureOf, fits, pictureTable, pictureRules}
 use Rattle.picture.specs.Surfaces.{surfaceTable, surfaceRules}
 use Rattle.picture.specs.declared.Frame.{Frame}
 
--- They refuse at words 1 to 4.
-pub surface-within : (ws : List ℕ) → T (within 8 (surfaceRules ws))
+-- They refuse with numbers 1 to 12, at words 1 to 4.
+pub surface-within : (ws : List ℕ) → T (within 12 8 (surfaceRules ws))
 unfolding surfaceRules surfaceTable
 surface-within ws = tt
 
-pub picture-within : (f : Frame) (ws : List ℕ) → T (within 8 (pictureRules f ws))
+pub picture-within : (f : Frame) (ws : List ℕ) → T (within 12 8 (pictureRules f ws))
 unfolding pictureRules pictureTable
 picture-within f ws = tt
 
@@ -25,3 +31,15 @@ some-columns ws = omega arith
 pub some-rows : (ws : List ℕ) → 1 ≤ pictureOf ws .grid .rows
 unfolding pictureOf
 some-rows ws = omega arith
+
+-- Over a picture that is accepted the pitch is at least the 16 columns of one macroblock.
+pub wide : (f : Frame) (ws : List ℕ) → judged (pictureRules f ws) ≡ Accepted → 16 ≤ f .surface .pitch
+unfolding pictureRules pictureTable
+wide f ws a =
+    let g = pictureOf ws .grid in
+    let fit = fits (f .width) (g .columns) && fits (f .height) (g .rows) in
+    let columns = leb (16 * g .columns) (f .surface .pitch) in
+    let rows = leb (16 * g .rows) (f .surface .«chroma_row») in
+    let size = all-hold (pictureRules f ws) a .1 .1 .0 in
+    let pitch = leb-true (16 * g .columns) (f .surface .pitch) (and-left columns rows (and-right fit (columns && rows) (and-right (leb (g .rows) 175) (fit && (columns && rows)) size))) in
+    omega (arith, pitch, some-columns ws)

@@ -35,6 +35,13 @@ module _ (fault : Answer) (needed : ℕ) (new room : List ℕ) where
       let a : answer ≡ Accepted = ap (λ (f : Answer). next f (roomFor needed room)) e ∙ simp (le-ltb (length room) needed h) in
       (sym a, o ∙ sym (ap (λ (x : Answer). lentAfter x new room) a))
 
+  -- no rule is broken, and the rest is done by another
+  pub hands-on : (out : List ℕ) (r : Answer) → fault ≡ Accepted → r ≡ roomFor needed room → out ≡ lentAfter (roomFor needed room) new room
+      → (r ≡ answer) × (out ≡ lentAfter answer new room)
+  hands-on out r e s o =
+      let a : roomFor needed room ≡ answer = ap (λ (f : Answer). next f (roomFor needed room)) (sym e) in
+      (s ∙ a, o ∙ ap (λ (x : Answer). lentAfter x new room) a)
+
 -- all of some bytes or words, in front of what stood beyond
 pub placed-all : (new room out src : List ℕ) → src ≡ new → out ≡ src ++ drop (length src) room → out ≡ new ++ drop (length new) room
 placed-all new room out src e o = o ∙ ap (λ (x : List ℕ). x ++ drop (length x) room) e

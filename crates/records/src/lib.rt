@@ -6,4 +6,5 @@ mod rules;
 mod writing;
 
 pub use reading::read_command;
+pub use reading::write_record;
 pub use writing::write_command;

@@ -1,8 +1,23 @@
-// One command read to its record.
+// A macroblock written as its record, and one command read to its record.
 use crate::layout;
 use answers::Answer;
+use command::Macroblock;
 ghost use mathlib.Core.Path.{_≡_};
-ghost use Rattle.records.specs.Alone.{readAnswer, readRoom};
+ghost use Rattle.records.specs.Layout.{recordLength};
+ghost use Rattle.records.specs.Records.{recordOf};
+ghost use Rattle.records.specs.Alone.{roomFor, lentAfter, readAnswer, readRoom};
+
+// Writes a macroblock's record into the first 24 bytes of room.
+pub fn write_record(macroblock: Macroblock, room: &mut [u8]) -> Answer
+    ensures { λ r. ⌜ (r ≡ roomFor recordLength (now (room .entry))) × (now (room .exit) ≡ lentAfter (roomFor recordLength (now (room .entry))) (recordOf macroblock) (now (room .entry))) ⌝ }
+{
+    if room.len() < 24 {
+        return Answer::Refused(14, 24);
+    }
+    let bytes = layout::record_of(macroblock);
+    bytes::copy(&bytes, room);
+    Answer::Accepted
+}
 
 // Reads one MACROBLOCK command into the first 24 bytes of room.
 pub fn read_command(words: &[u32], room: &mut [u8]) -> Answer
@@ -21,10 +36,5 @@ pub fn read_command(words: &[u32], room: &mut [u8]) -> Answer
     if let Answer::Refused(_, _) = fault {
         return fault;
     }
-    if room.len() < 24 {
-        return Answer::Refused(14, 24);
-    }
-    let bytes = layout::record_of(command::macroblock_of(words));
-    bytes::copy(&bytes, room);
-    Answer::Accepted
+    write_record(command::macroblock_of(words), room)
 }

@@ -16,17 +16,26 @@ use std::collections::HashSet;
 use std::path::Path;
 
 pub struct Case {
-    words: Vec<u32>,
-    buffers: [u64; 4],
-    report: Report,
+    pub words: Vec<u32>,
+    pub buffers: [u64; 4],
+    pub report: Report,
 }
 
 impl Case {
-    fn bytes(&self) -> Vec<u8> {
+    /// The first 36 bytes.
+    pub fn head(&self) -> Vec<u8> {
         let mut bytes = (self.words.len() as u32).to_le_bytes().to_vec();
         bytes.extend(self.buffers.iter().flat_map(|length| length.to_le_bytes()));
-        bytes.extend(self.words.iter().flat_map(|word| word.to_le_bytes()));
         bytes
+    }
+
+    /// The rest.
+    pub fn tail(&self) -> Vec<u8> {
+        self.words.iter().flat_map(|word| word.to_le_bytes()).collect()
+    }
+
+    fn bytes(&self) -> Vec<u8> {
+        [self.head(), self.tail()].concat()
     }
 }
 
@@ -52,22 +61,21 @@ pub fn needed(words: &[u32]) -> [u64; 4] {
     check(words, [u64::MAX; 4]).lengths
 }
 
-fn cases() -> Vec<Case> {
+/// The cases that these generators make.
+pub fn made_by(generators: &[fn(&mut Cases)]) -> Vec<Case> {
     let mut cases = Cases::default();
-    document(&mut cases);
-    rule_table(&mut cases);
-    valid(&mut cases);
-    damage(&mut cases);
-    faults(&mut cases);
+    generators.iter().for_each(|generator| generator(&mut cases));
     cases.list
+}
+
+fn cases() -> Vec<Case> {
+    made_by(&[document, rule_table, valid, damage, faults])
 }
 
 pub fn write(dir: &Path) -> std::io::Result<()> {
     let cases = cases();
-    let lines: String = cases.iter().map(|case| line(&case.report) + "\n").collect();
-    std::fs::create_dir_all(dir)?;
-    std::fs::write(dir.join("stdin"), cases.iter().flat_map(Case::bytes).collect::<Vec<u8>>())?;
-    std::fs::write(dir.join("stdout"), lines)
+    let lines = cases.iter().map(|case| line(&case.report) + "\n").collect();
+    crate::store(dir, cases.iter().flat_map(Case::bytes).collect(), lines)
 }
 
 #[cfg(test)]

@@ -108,10 +108,8 @@ fn cases() -> Vec<Case> {
 
 pub fn write(dir: &Path) -> std::io::Result<()> {
     let cases = cases();
-    let lines: String = cases.iter().map(Case::line).collect();
-    std::fs::create_dir_all(dir)?;
-    std::fs::write(dir.join("stdin"), cases.iter().flat_map(Case::bytes).collect::<Vec<u8>>())?;
-    std::fs::write(dir.join("stdout"), lines)
+    let lines = cases.iter().map(Case::line).collect();
+    crate::store(dir, cases.iter().flat_map(Case::bytes).collect(), lines)
 }
 
 #[cfg(test)]

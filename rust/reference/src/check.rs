@@ -136,12 +136,13 @@ pub fn check(words: &[u32], buffers: [u64; 4]) -> Report {
     check_up_to(4_294_967_295, words, buffers)
 }
 
-/// "`accept` and the four lengths, or `refuse`, number and place, and for 13 the lengths too."
+/// "`accept` and the four lengths, or `refuse`, number and place, and for 13 the lengths too." The same for 14, which
+/// decoding alone gives.
 pub fn line(report: &Report) -> String {
     let Report { number, place, lengths: [l0, l1, l2, l3] } = report;
     match number {
         0 => format!("accept {l0} {l1} {l2} {l3}"),
-        13 => format!("refuse 13 {place} {l0} {l1} {l2} {l3}"),
+        13 | 14 => format!("refuse {number} {place} {l0} {l1} {l2} {l3}"),
         _ => format!("refuse {number} {place}"),
     }
 }
@@ -183,5 +184,6 @@ mod tests {
         assert_eq!(report(0, 0, [1, 2, 3, u64::MAX]), "accept 1 2 3 18446744073709551615");
         assert_eq!(report(12, 345, [0; 4]), "refuse 12 345");
         assert_eq!(report(13, 2, [4, 5, 6, 7]), "refuse 13 2 4 5 6 7");
+        assert_eq!(report(14, 24, [4, 5, 6, 7]), "refuse 14 24 4 5 6 7");
     }
 }

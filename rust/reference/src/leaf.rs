@@ -244,9 +244,7 @@ pub fn write(dir: &Path) -> std::io::Result<()> {
         cases.extend(b);
         writeln!(lines, "{:08x} {:08x}", bits(word, hi, lo), with_bits(word, hi, lo, value)).unwrap();
     }
-    std::fs::create_dir_all(dir)?;
-    std::fs::write(dir.join("stdin"), cases)?;
-    std::fs::write(dir.join("stdout"), lines)
+    crate::store(dir, cases, lines)
 }
 
 #[cfg(test)]

@@ -5,6 +5,7 @@
 //!     reference leaf DIR      writes DIR/stdin and DIR/stdout, the cases of crates/leaf_cases
 //!     reference command DIR   the same for headers, commands read alone and records written alone
 //!     reference batch DIR     the same for whole batches beside their buffers' lengths
+//!     reference decode DIR    the same for whole batches decoded into a lent log
 
 mod batch;
 mod batch_cases;
@@ -19,6 +20,11 @@ mod check_macroblock;
 mod check_picture;
 mod command;
 mod command_cases;
+mod decode;
+mod decode_cases;
+mod decode_fields;
+mod decode_refused;
+mod decode_valid;
 mod leaf;
 mod random;
 mod record;
@@ -32,14 +38,22 @@ mod valid_cases;
 use std::path::Path;
 use std::process::ExitCode;
 
+/// Writes DIR/stdin and DIR/stdout.
+fn store(dir: &Path, stdin: Vec<u8>, stdout: String) -> std::io::Result<()> {
+    std::fs::create_dir_all(dir)?;
+    std::fs::write(dir.join("stdin"), stdin)?;
+    std::fs::write(dir.join("stdout"), stdout)
+}
+
 fn main() -> ExitCode {
     let words: Vec<String> = std::env::args().skip(1).collect();
     let done = match words.iter().map(String::as_str).collect::<Vec<_>>()[..] {
         ["leaf", dir] => leaf::write(Path::new(dir)),
         ["command", dir] => cases::write(Path::new(dir)),
         ["batch", dir] => batch_cases::write(Path::new(dir)),
+        ["decode", dir] => decode_cases::write(Path::new(dir)),
         _ => {
-            eprintln!("usage: reference leaf|command|batch DIR");
+            eprintln!("usage: reference leaf|command|batch|decode DIR");
             return ExitCode::from(2);
         }
     };

@@ -153,7 +153,7 @@ add-t28 : tie.Need-add-t28 Inv-loop μ-loop
 add-t28 c =
     let m = c .before .before .before .before .before .before .before in
     let near = stops-within _ _ _ _ _ (sym (c .before .before .before .judge .ensures) ∙ c .before .number .given .1) in
-    omega (arith, near, m .before .before .before .before .before .before .before .pre, m .before .before .before .before .loop-test .taken)
+    omega (arith, near .2, m .before .before .before .before .before .before .before .pre, m .before .before .before .before .loop-test .taken)
 
 returns-4 : tie.Need-returns-4 Inv-loop μ-loop
 unfolding after

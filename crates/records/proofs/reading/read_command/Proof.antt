@@ -1,9 +1,11 @@
+use mathlib.Core.List.{List}
 use mathlib.Core.Path.{sym, ap, _∙_}
+use Prim.Native.Nat.{ℕ}
 use denote.Ref.{now}
 use Rattle.command.specs.Macroblocks.{macroblockOf}
-use Rattle.records.specs.Alone.{readFault, readAnswer, readRoom}
+use Rattle.records.specs.Alone.{lentAfter, roomFor, readFault, readAnswer, readRoom}
 use Rattle.records.specs.Records.{recordOf}
-use Rattle.records.proofs.LentRoom.{refuses, lacks-room, writes, copied-all, no-words, other-header, too-few, whole}
+use Rattle.records.proofs.LentRoom.{refuses, hands-on, no-words, other-header, too-few, whole}
 use borrow.Author.Needs.{needs}
 use Rattle.records.proofs.reading.read_command.Statement.{statement}
 use Rattle.records.proofs.reading.read_command.Tie as tie
@@ -55,40 +57,27 @@ returns-4 c =
 enum-told-2 : tie.Need-enum-told-2
 enum-told-2 c = search needs
 
-returns-5 : tie.Need-returns-5
-unfolding readAnswer readRoom
-returns-5 c =
-    let ws = now (c .before .before .before .before .before .before .before .before .before .before .args .words) in
-    let room = now (c .before .before .before .before .before .before .before .before .before .before .args .room) in
-    let new = recordOf (macroblockOf ws) in
-    let judged = whole ws (c .before .before .before .before .before .before .before .if1 .left) (c .before .before .before .before .before .if2 .left) (c .before .before .before .before .if3 .left) in
-    lacks-room (readFault ws) 24 new room (judged ∙ sym (c .before .before .before .fault-of .ensures) ∙ c .before .enum-told2 .given .1) (c .if4 .taken)
-
 macroblock-of-requires : tie.Need-macroblock-of-requires
 macroblock-of-requires c κs = search needs
 
-record-of-requires : tie.Need-record-of-requires
-record-of-requires c κs = search needs
-
-slice-aggregate-copy : tie.Need-slice-aggregate-copy
-slice-aggregate-copy c = search needs
-
-copy-requires : tie.Need-copy-requires
-copy-requires c κs = search needs
+write-record-requires : tie.Need-write-record-requires
+write-record-requires c κs = search needs
 
 same-length : tie.Need-same-length
 same-length c = search needs
 
-returns-6 : tie.Need-returns-6
+returns-5 : tie.Need-returns-5
 unfolding readAnswer readRoom
-returns-6 c =
-    let ws = now (c .before .before .before .before .before .before .before .before .before .before .before .before .before .before .before .before .before .args .words) in
-    let room = now (c .before .before .before .before .before .before .before .before .before .before .before .before .before .before .before .before .before .args .room) in
-    let new = recordOf (macroblockOf ws) in
-    let judged = whole ws (c .before .before .before .before .before .before .before .before .before .before .before .before .before .before .if1 .left) (c .before .before .before .before .before .before .before .before .before .before .before .before .if2 .left) (c .before .before .before .before .before .before .before .before .before .before .before .if3 .left) in
-    let fault = judged ∙ sym (c .before .before .before .before .before .before .before .before .before .before .fault-of .ensures) ∙ c .before .before .before .before .before .before .before .before .enum-told2 .given .1 in
-    writes (readFault ws) 24 new room _ fault (c .before .before .before .before .before .before .before .if4 .left)
-    (copied-all new room _ _ (c .before .before .before .before .before .record-of .ensures ∙ ap recordOf (c .before .before .before .before .before .before .macroblock-of .ensures)) (c .before .before .copy .ensures .1))
+returns-5 c =
+    let told = c .before .before .before .before .before in
+    let first = told .before .before .before .before .before .before in
+    let ws = now (first .before .before .before .args .words) in
+    let room = now (first .before .before .before .args .room) in
+    let judged = whole ws (first .if1 .left) (told .before .before .before .before .if2 .left) (told .before .before .before .if3 .left) in
+    let fault = judged ∙ sym (told .before .before .fault-of .ensures) ∙ told .enum-told2 .given .1 in
+    let done = c .before .before .write-record .ensures in
+    let new = ap recordOf (c .before .before .before .before .macroblock-of .ensures) in
+    hands-on (readFault ws) 24 (recordOf (macroblockOf ws)) room _ _ fault (done .0) (done .1 ∙ ap (λ (x : List ℕ). lentAfter (roomFor 24 room) x room) new)
 
 pub read-command-spec : {M : Type 1} → statement M
 read-command-spec =
@@ -102,10 +91,7 @@ read-command-spec =
     enum-told
     returns-4
     enum-told-2
-    returns-5
     macroblock-of-requires
-    record-of-requires
-    slice-aggregate-copy
-    copy-requires
+    write-record-requires
     same-length
-    returns-6)
+    returns-5)

@@ -1,0 +1,91 @@
+-- The MACROBLOCK commands of a batch that is not refused can each be read alone.
+use mathlib.Core.Bool.{Bool, true, false, cond}
+use mathlib.Core.List.{List, [], _∷_, _++_, foldl}
+use mathlib.Core.Path.{_≡_, refl, sym, ap, _∙_}
+use Prim.Native.Nat.{ℕ, zero, suc, _+_, _≤_, _<_}
+use native.Mathlib.Omega.{arith}
+use borrow.Author.Tests.{ltb-false}
+use lib.Dec.{eqb, ltb}
+use lib.ListN.{length, getD}
+use Rattle.answers.specs.Answers.{judged}
+use Rattle.answers.specs.declared.Answer.the-variants.{Accepted}
+use Rattle.headers.specs.Headers.{macroblockHeader, headerOf, wordsIn, begins}
+use Rattle.headers.specs.Words.{wordAt}
+use Rattle.headers.specs.declared.Header.{Header}
+use Rattle.headers.specs.declared.Opcode.the-variants.{Macroblock}
+use Rattle.headers.proofs.HeaderLaws.{macroblock-word, macroblock-words}
+use Rattle.command.specs.Rules.{commandRules}
+use Rattle.progress.specs.Progress.{fresh}
+use Rattle.progress.specs.declared.Progress.{Progress}
+use Rattle.macroblocks.proofs.MacroblockLaws.{alone-kept}
+use Rattle.judging.proofs.JudgingLaws.{goes-on}
+use Rattle.judging.proofs.SequenceLaws.{macroblock-rules}
+use Rattle.batch.specs.Commands.{Command, cut, commandsOf, macroblocksIn}
+use Rattle.batch.specs.Walk.{going, step, start}
+use Rattle.batch.proofs.Runs.{Run, batch-runs}
+
+-- What is asked of a MACROBLOCK command's words to be read alone: its header, nine words, and the rules of a command alone.
+pub record Alone (m : List ℕ) : Type 0 where
+  pub header : wordAt m 0 ≡ macroblockHeader
+  pub nine : 9 ≤ length m
+  pub kept : judged (commandRules m) ≡ Accepted
+
+abbrev pub AllAlone : List (List ℕ) → Type 0
+AllAlone [] = Unit {0}
+AllAlone (m ∷ ms) = Alone m × AllAlone ms
+
+-- Commands that have the header that their first word says, and at least the words of it.
+abbrev Whole : List Command → Type 0
+Whole [] = Unit {0}
+Whole (c ∷ cs) = (c .header ≡ headerOf (wordAt (c .words) 0)) × (wordsIn (c .header) ≤ length (c .words)) × Whole cs
+
+cut-whole : (at : ℕ) (g ws : List ℕ) → Whole (cut at g ws)
+unfolding cut
+cut-whole at g [] = tt
+cut-whole at g (w ∷ ws) =
+    by (eqb (wordsIn h) 0) (ltb (length g+) (wordsIn h)) refl (cut-whole at (g ++ (w ∷ [])) ws) (cut-whole (at + length (g ++ (w ∷ []))) [] ws)
+  where
+    g+ : List ℕ
+    g+ = g ++ (w ∷ [])
+
+    h : Header
+    h = headerOf (wordAt (g ++ (w ∷ [])) 0)
+
+    c : Command
+    c = record { place = at; header = h; words = g ++ (w ∷ []) }
+
+    by : (u s : Bool) → ltb (length g+) (wordsIn h) ≡ s → Whole (cut at g+ ws) → Whole (cut (at + length g+) [] ws)
+        → Whole (cond u [] (cond s (cut at g+ ws) (c ∷ cut (at + length g+) [] ws)))
+    by true s e more next = tt
+    by false true e more next = more
+    by false false e more next = (refl, ltb-false (length g+) (wordsIn h) e, next)
+
+-- one MACROBLOCK command
+read-alone : (c : Command) → begins Macroblock (c .header) ≡ true → c .header ≡ headerOf (wordAt (c .words) 0) → wordsIn (c .header) ≤ length (c .words)
+    → judged (commandRules (c .words)) ≡ Accepted → Alone (c .words)
+read-alone c b h l k =
+    let b' : begins Macroblock (headerOf (wordAt (c .words) 0)) ≡ true = ap (begins Macroblock) (sym h) ∙ b in
+    let n : wordsIn (c .header) ≡ 9 = ap wordsIn h ∙ macroblock-words (wordAt (c .words) 0) b' in
+    record { header = macroblock-word (wordAt (c .words) 0) b'; nine = omega (arith, n, l); kept = k }
+
+run-alone : (p : Progress) (cs : List Command) (q : Progress) → Run p cs q → Whole cs → AllAlone (macroblocksIn cs)
+unfolding macroblocksIn
+run-alone p [] q r w = tt
+run-alone p (c ∷ cs) q r w = by (begins Macroblock (c .header)) refl (run-alone (r .0) cs q (r .2) (w .2))
+  where
+    by : (b : Bool) → begins Macroblock (c .header) ≡ b → AllAlone (macroblocksIn cs) → AllAlone (cond b (c .words ∷ macroblocksIn cs) (macroblocksIn cs))
+    by true b rest =
+        let a = goes-on (c .header) p (c .words) (r .0) (r .1) .0 in
+        (read-alone c b (w .0) (w .1) (alone-kept p (c .words) (macroblock-rules (c .header) p (c .words) b a)), rest)
+    by false b rest = rest
+
+-- Every MACROBLOCK command of a batch that is not refused keeps the rules of a command read alone.
+pub macroblocks-alone : (ws : List ℕ) (at : ℕ) (q : Progress) (g : List ℕ) → foldl step start ws ≡ going at q g → AllAlone (macroblocksIn (commandsOf ws))
+unfolding commandsOf
+macroblocks-alone ws at q g e = run-alone fresh (commandsOf ws) q (batch-runs ws at q g e) (cut-whole 0 [] ws)
+
+-- the k-th of them
+pub alone-at : (ms : List (List ℕ)) (k : ℕ) → AllAlone ms → k < length ms → Alone (getD ms k [])
+alone-at [] k a l = absurd (omega arith)
+alone-at (m ∷ ms) zero a l = a .0
+alone-at (m ∷ ms) (suc k) a l = alone-at ms k (a .1) (omega arith)

@@ -1,0 +1,20 @@
+-- Which bytes of the picture buffers a batch touches, from the list of commands that its words cut into.
+use Prim.Native.Nat.{ℕ, _/_, _%_, _<_}
+use mathlib.Core.List.{List, []}
+use lib.ListN.{length, getD}
+use Rattle.prediction.specs.declared.Position.{Position}
+use Rattle.command.specs.Macroblocks.{macroblockOf}
+use Rattle.progress.specs.Buffers.{Buffer}
+use Rattle.macroblocks.specs.Touching.{referenceIn, TouchedBy}
+use Rattle.batch.specs.Commands.{commandsOf, macroblocksIn, frameOf, pictureIn}
+
+-- Document 01: "The k-th macroblock, from 0, is at column k mod W, row k div W."
+abbrev pub positionIn : ℕ → ℕ → Position
+positionIn w k = record { column = k % w; row = k / w }
+
+-- "A batch touches what its W·H macroblocks touch; the samples read or written in demand 3 are these and no others." Pitch and first
+-- chroma row are those of the batch's SURFACE, W is that of its PICTURE, and the k-th MACROBLOCK command is read alone.
+pub record Touched (ws : List ℕ) (b : Buffer) (byte : ℕ) : Type 0 where
+  pub k : ℕ
+  pub comes : k < length (macroblocksIn (commandsOf ws))
+  pub touches : TouchedBy (frameOf ws .surface) (positionIn (pictureIn ws .grid .columns) k) (referenceIn b (macroblockOf (getD (macroblocksIn (commandsOf ws)) k []) .case)) byte
