@@ -8,7 +8,7 @@ use native.Mathlib.Nat.{add-zero, zero-add}
 use native.Mathlib.Omega.{arith}
 use lib.ListN.{length, getD}
 use Rattle.fields.specs.Word.{flag}
-use Rattle.prediction.specs.Extents.{emptyExtent, Exact}
+use Rattle.prediction.specs.Extents.{Exact}
 use Rattle.prediction.specs.declared.Position.{Position}
 use Rattle.prediction.specs.declared.Surface.{Surface}
 use Rattle.prediction.proofs.ExtentLaws.{empty-exact, exact-same}
@@ -57,8 +57,7 @@ module _ (b : Buffer) where
       let same : macroblockNext p (c .words) ≡ t = sym (n .1 ∙ macroblock-next (c .header) p (c .words) e) in
       let one = next-exact p (c .words) a (s .wide pictured) (s .in-row pictured) b before in
       let moved : Exact (λ (byte : ℕ). Before byte ⊎ By (p .frame .surface) (positionIn (p .picture .grid .columns) (countOf p)) (c .words) byte) (extentOf b (macroblockNext p (c .words) .extents)) =
-          subst (λ (x : Position). Exact (λ (byte : ℕ). Before byte ⊎ By (p .frame .surface) x (c .words) byte) (extentOf b (macroblockNext p (c .words) .extents))) here one in
-      (
+      subst (λ (x : Position). Exact (λ (byte : ℕ). Before byte ⊎ By (p .frame .surface) x (c .words) byte) (extentOf b (macroblockNext p (c .words) .extents))) here one in (
         pictured,
         subst (λ (x : Progress). Exact (λ (byte : ℕ). Before byte ⊎ By (p .frame .surface) (positionIn (p .picture .grid .columns) (countOf p)) (c .words) byte) (extentOf b (x .extents))) same moved,
       )
@@ -144,7 +143,7 @@ module _ (b : Buffer) where
       let r = batch-runs ws at p g e in
       let l = listed ws at p g e in
       let all : Exact (λ (byte : ℕ). ⊥ ⊎ From (frameOf ws .surface) (pictureIn ws .grid .columns) 0 (macroblocksIn (commandsOf ws)) byte) (extentOf b (p .extents)) =
-          rw (start-count, l .frame, l .picture) at (run-exact fresh (commandsOf ws) p r fresh-sound none-yet) in
+      rw (start-count, l .frame, l .picture) at (run-exact fresh (commandsOf ws) p r fresh-sound none-yet) in
       exact-same to back all
     where
       ms : List (List ℕ)

@@ -1,9 +1,12 @@
 -- for the crates above
+pub mod BufferLengths
 pub mod CommandList
-pub mod Exactness
+pub mod Numbers
 pub mod ReadAlone
 pub mod Runs
 pub mod WalkLaws
 -- for this crate alone
 mod Cases
+mod Exactness
+mod Measuring
 mod Turns

@@ -2,7 +2,7 @@
 use mathlib.Core.Bool.{Bool, true, false, cond}
 use mathlib.Core.List.{List, [], _∷_, _++_, foldl}
 use mathlib.Core.Logic.{inl, inr}
-use mathlib.Core.Path.{_≡_, refl, sym, _∙_}
+use mathlib.Core.Path.{_≡_, refl, sym, ap, _∙_}
 use Prim.Native.Nat.{ℕ, zero, _+_}
 use native.Mathlib.Nat.{add-zero}
 use native.Mathlib.Omega.{arith}
@@ -20,7 +20,8 @@ use Rattle.progress.specs.declared.Verdict.the-variants.{Next, Stop}
 use Rattle.judging.specs.Judging.{judge}
 use Rattle.judging.proofs.SequenceLaws.{noop-passes}
 use Rattle.batch.specs.Commands.{Command, cut, commandsOf}
-use Rattle.batch.specs.Walk.{going, stopped, limit, after, settled, step, start}
+use Rattle.batch.specs.Reports.{ending, verdictOf}
+use Rattle.batch.specs.Walk.{Walk, going, stopped, limit, after, settled, step, start}
 use Rattle.batch.proofs.WalkLaws.{stays, Short}
 
 -- From progress `p` to progress `q` by commands, none of which is refused.
@@ -105,3 +106,20 @@ walk-runs at p g (w ∷ ws) at' q g' short e = next-word w ws at' q g' (λ a x y
 pub batch-runs : (ws : List ℕ) (at : ℕ) (q : Progress) (g : List ℕ) → foldl step start ws ≡ going at q g → Run fresh (commandsOf ws) q
 unfolding commandsOf
 batch-runs ws at q g e = walk-runs 0 fresh [] ws at q g (inl refl) e
+
+-- A batch that keeps the rules, the buffers apart, has gone through its words, and END has come.
+pub gone-through : (ws : List ℕ) (p : Progress) → verdictOf ws ≡ Next p
+    → (at : ℕ) × (g : List ℕ) × (foldl step start ws ≡ going at p g) × (p .stage .ended ≡ true)
+unfolding verdictOf
+gone-through ws p e = by (foldl step start ws) refl e
+  where
+    ended : (at : ℕ) (q : Progress) (g : List ℕ) (t : Bool) → q .stage .ended ≡ t → foldl step start ws ≡ going at q g
+        → cond t (Next q) (Stop 1 (at + length g)) ≡ Next p
+        → (at : ℕ) × (g : List ℕ) × (foldl step start ws ≡ going at p g) × (p .stage .ended ≡ true)
+    ended at q g true t s e = let i : q ≡ p = cc in (at, g, s ∙ ap (λ (x : Progress). going at x g) i, ap (λ (x : Progress). x .stage .ended) (sym i) ∙ t)
+    ended at q g false t s e = let z : _≡_ {A = ℕ} 0 1 = cc in absurd (omega arith)
+
+    by : (s : Walk) → foldl step start ws ≡ s → ending s ≡ Next p
+        → (at : ℕ) × (g : List ℕ) × (foldl step start ws ≡ going at p g) × (p .stage .ended ≡ true)
+    by (stopped n place) s e = let z : _≡_ {A = ℕ} 0 1 = cc in absurd (omega arith)
+    by (going at q g) s e = ended at q g (q .stage .ended) refl s e

@@ -5,7 +5,7 @@ use mathlib.Core.Logic.{_⊎_}
 use mathlib.Core.Path.{_≡_}
 use lib.ListN.{getD}
 use Rattle.progress.specs.Buffers.{Buffer, bufferNumber}
-use Rattle.batch.specs.Reports.{numberOf, placeOf, reportedOf, lengthOf}
+use Rattle.batch.specs.Reports.{numberOf, placeOf, reportedOf, lengthOf, report}
 use Rattle.batch.specs.Touched.{Touched}
 use Rattle.batch.specs.declared.Lengths.{Lengths}
 use Rattle.batch.specs.declared.Report.{Report}
@@ -59,3 +59,7 @@ pub record Demand3 (ws : List ℕ) (Room : Type 0) (Answers : Lengths → Report
   -- "Under any two sets of lengths that are all long enough, the answer and the records are the same." For the records see
   -- decoding.
   pub same-answer : (l k : Lengths) (r q : Report) → Answers l r → Answers k q → AllEnough r l → AllEnough q k → r ≡ q
+
+-- The check whole: by its contract it answers this.
+abbrev pub Checked : List ℕ → Lengths → Report → Type 0
+Checked ws l r = r ≡ report l ws

@@ -9,9 +9,9 @@ enum Got {
     Part,
 }
 
-// What is next: a case with its count of words and its lengths, the end of the input, or neither.
+// What is next: a case with its count of words, its lengths and what stands before its words; the end of the input; or neither.
 pub enum Head {
-    Case(usize, Lengths),
+    Case(usize, Lengths, u32),
     End,
     Bad,
 }
@@ -64,7 +64,10 @@ pub fn read_head() -> Head {
             if !read_words(&mut halves) {
                 return Head::Bad;
             }
-            Head::Case(n as usize, lengths_of(&halves))
+            let Got::Word(lent) = read_word() else {
+                return Head::Bad;
+            };
+            Head::Case(n as usize, lengths_of(&halves), lent)
         }
     }
 }

@@ -2,14 +2,13 @@
 use mathlib.Core.Bool.{true}
 use mathlib.Core.List.{List}
 use mathlib.Core.Logic.{_⊎_}
-use mathlib.Core.Path.{_≡_, refl, sym, ap, subst, _∙_}
+use mathlib.Core.Path.{_≡_, refl, ap}
 use Prim.Native.Nat.{ℕ, _≤_, _<_}
 use Rattle.prediction.specs.Vectors.{still}
 use Rattle.prediction.specs.Extents.{Exact}
 use Rattle.prediction.specs.Blocks.{Occupies, blockAt}
 use Rattle.prediction.specs.declared.Block.{Block}
 use Rattle.prediction.specs.declared.Block.the-variants.{Outside, Inside}
-use Rattle.prediction.specs.declared.Extent.{Extent}
 use Rattle.prediction.specs.declared.Grid.{Grid}
 use Rattle.prediction.specs.declared.Position.{Position}
 use Rattle.prediction.specs.declared.Surface.{Surface}

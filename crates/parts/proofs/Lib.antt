@@ -1,4 +1,5 @@
 -- for the crates above
 pub mod Parts
+pub mod PartsLengths
 -- for this crate alone
 mod HeldLaws

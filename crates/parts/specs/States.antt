@@ -1,7 +1,7 @@
 -- What the state of a check in parts stands for, and what its functions promise.
 use Prim.Native.Nat.{ℕ, _+_}
 use mathlib.Core.Bool.{cond, _&&_}
-use mathlib.Core.List.{List, [], _∷_, foldl}
+use mathlib.Core.List.{List, [], _∷_, foldl, flatten}
 use mathlib.Core.Path.{_≡_}
 use lib.Dec.{leb, ltb}
 use lib.ListN.{take}
@@ -45,3 +45,7 @@ Along s (part ∷ parts) r = (t : State) × Handed s part t × Along t parts r
 -- A state that was handed over from four lengths by a list of parts, whatever the functions returned on the way.
 abbrev pub HandedOver : Lengths → List (List ℕ) → State → Type 0
 HandedOver l parts r = (s : State) × Begun l s × Along s parts r
+
+-- An answer to a batch in parts: some list of parts makes the batch up, a state was handed over along it, and this is answered after it.
+abbrev pub InParts : List ℕ → Lengths → Report → Type 0
+InParts ws l r = (parts : List (List ℕ)) × (flatten parts ≡ ws) × ((s : State) × HandedOver l parts s × Answered s r)

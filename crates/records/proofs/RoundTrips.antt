@@ -67,7 +67,7 @@ nine-again : (ws : List ℕ) → Words ws → readFault ws ≡ Accepted → word
 unfolding macroblockOf
 nine-again ws h e = words-back (elements ws 0 9) (first-nine ws h e) ∙ elements-take ws 9 (read-kept ws e .1)
 
-record-length : (m : Macroblock) → length (recordOf m) ≡ 24
+pub record-length : (m : Macroblock) → length (recordOf m) ≡ 24
 unfolding recordOf
 record-length m = refl
 
@@ -78,6 +78,16 @@ words-length m = ap (λ (n : ℕ). suc (suc (suc (suc (suc n))))) (vectors-four 
 -- 24 bytes are filled by a record
 nothing-beyond : (m : Macroblock) → recordOf m ++ drop (length (recordOf m)) (replicate 24 0) ≡ recordOf m
 nothing-beyond m = ap (λ (n : ℕ). recordOf m ++ drop n (replicate 24 0)) (record-length m) ∙ append-nil (recordOf m)
+
+-- A command with its header and nine words that keeps the rules is accepted, and its record stands in front of the lent bytes.
+pub read-alone : (ws room : List ℕ) → wordAt ws 0 ≡ macroblockHeader → 9 ≤ length ws → judged (commandRules ws) ≡ Accepted → 24 ≤ length room
+    → (readAnswer ws room ≡ Accepted) × (readRoom ws room ≡ recordOf (macroblockOf ws) ++ drop 24 room)
+unfolding readAnswer readRoom
+read-alone ws room h n k r =
+    let new = recordOf (macroblockOf ws) in
+    let fault : readFault ws ≡ Accepted = whole ws (λ z. absurd (omega arith)) h n ∙ k in
+    let w = writes (readFault ws) 24 new room (new ++ drop (length new) room) fault r refl in
+    (sym (w .0), sym (w .1) ∙ ap (λ (i : ℕ). new ++ drop i room) (record-length (macroblockOf ws)))
 
 -- The record of an accepted command is legal, and its words are the command's.
 record-of-read : (ws : List ℕ) → Words ws → readFault ws ≡ Accepted → recordFault (recordOf (macroblockOf ws)) ≡ Accepted

@@ -1,16 +1,18 @@
-//! Cases for the check of a whole batch, one after another:
+//! Cases for the check of a whole batch and for its decoding, one after another:
 //!
-//!     0..4   how many words
-//!     4..36  the four buffers' lengths, 8 bytes each
-//!     36..   the words, 4 bytes each
+//!     0..4    how many words
+//!     4..36   the four buffers' lengths, 8 bytes each
+//!     36..40  0 for the check; one more than how many bytes of log are lent for decoding
+//!     40..    the words, 4 bytes each
 //!
-//! all of it little-endian.
+//! all of it little-endian. The cases for the check come first.
 
 use crate::batch_damage::damage;
 use crate::batch_document::document;
 use crate::batch_faults::faults;
 use crate::batch_rules::rule_table;
 use crate::check::{check, line, Report};
+use crate::decode_cases;
 use crate::valid_cases::valid;
 use std::collections::HashSet;
 use std::path::Path;
@@ -22,20 +24,13 @@ pub struct Case {
 }
 
 impl Case {
-    /// The first 36 bytes.
-    pub fn head(&self) -> Vec<u8> {
+    /// The case as it is stored, with what stands in 36..40.
+    pub fn bytes(&self, lent: u32) -> Vec<u8> {
         let mut bytes = (self.words.len() as u32).to_le_bytes().to_vec();
         bytes.extend(self.buffers.iter().flat_map(|length| length.to_le_bytes()));
+        bytes.extend(lent.to_le_bytes());
+        bytes.extend(self.words.iter().flat_map(|word| word.to_le_bytes()));
         bytes
-    }
-
-    /// The rest.
-    pub fn tail(&self) -> Vec<u8> {
-        self.words.iter().flat_map(|word| word.to_le_bytes()).collect()
-    }
-
-    fn bytes(&self) -> Vec<u8> {
-        [self.head(), self.tail()].concat()
     }
 }
 
@@ -73,9 +68,10 @@ fn cases() -> Vec<Case> {
 }
 
 pub fn write(dir: &Path) -> std::io::Result<()> {
-    let cases = cases();
-    let lines = cases.iter().map(|case| line(&case.report) + "\n").collect();
-    crate::store(dir, cases.iter().flat_map(Case::bytes).collect(), lines)
+    let (checked, decoded) = (cases(), decode_cases::cases());
+    let lines = checked.iter().map(|case| line(&case.report) + "\n").chain(decoded.iter().map(decode_cases::Case::line));
+    let bytes = checked.iter().map(|case| case.bytes(0)).chain(decoded.iter().map(decode_cases::Case::bytes));
+    crate::store(dir, bytes.flatten().collect(), lines.collect())
 }
 
 #[cfg(test)]
@@ -167,12 +163,12 @@ mod tests {
     #[test]
     fn form_of_the_cases() {
         let cases = cases();
-        let bytes: usize = cases.iter().map(|case| case.bytes().len()).sum();
-        assert!(bytes < 700_000, "{bytes}");
+        let bytes: usize = cases.iter().map(|case| case.bytes(0).len()).sum();
+        assert!(bytes < 720_000, "{bytes}");
         assert!(cases.iter().all(|case| case.words.len() <= 2000));
-        let one = &cases[0].bytes();
-        assert_eq!(one.len(), 36 + 4 * 37);
+        let one = &cases[0].bytes(0);
+        assert_eq!(one.len(), 40 + 4 * 37);
         assert_eq!(one[..12], [37, 0, 0, 0, 0x90, 0x0b, 0, 0, 0, 0, 0, 0]);
-        assert_eq!(one[36..40], [0x04, 0, 0x01, 0x70]);
+        assert_eq!(one[36..44], [0, 0, 0, 0, 0x04, 0, 0x01, 0x70]);
     }
 }

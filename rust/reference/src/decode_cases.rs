@@ -1,13 +1,6 @@
-//! Cases for the decoding of a whole batch, one after another:
-//!
-//!     0..4    how many words
-//!     4..36   the four buffers' lengths, 8 bytes each
-//!     36..40  how many bytes the lent log has
-//!     40..    the words, 4 bytes each
-//!
-//! all of it little-endian. Before decoding, byte i of the lent log is (37·i + 11) mod 256, which is not stored. The line due
-//! is the report, with the lengths for 14 as for 13, a space, and the whole lent log afterwards in hexadecimal, `-` if it has
-//! no byte.
+//! Cases for the decoding of a whole batch, stored behind those for the check. Before decoding, byte i of the lent log is
+//! (37·i + 11) mod 256, which is not stored. The line due is the report, with the lengths for 14 as for 13, a space, and the
+//! whole lent log afterwards in hexadecimal, `-` if it has no byte.
 
 use crate::batch_cases::Case as Batch;
 use crate::check::{line, Report};
@@ -16,7 +9,6 @@ use crate::decode_fields::fields;
 use crate::decode_refused::refused;
 use crate::decode_valid::{document, valid};
 use std::collections::HashSet;
-use std::path::Path;
 
 /// The lent log before.
 fn lent(room: usize) -> Vec<u8> {
@@ -31,11 +23,11 @@ pub struct Case {
 }
 
 impl Case {
-    fn bytes(&self) -> Vec<u8> {
-        [self.batch.head(), (self.log.len() as u32).to_le_bytes().into(), self.batch.tail()].concat()
+    pub fn bytes(&self) -> Vec<u8> {
+        self.batch.bytes(self.log.len() as u32 + 1)
     }
 
-    fn line(&self) -> String {
+    pub fn line(&self) -> String {
         let hex: String = self.log.iter().map(|byte| format!("{byte:02x}")).collect();
         format!("{} {}\n", line(&self.batch.report), if hex.is_empty() { "-" } else { &hex })
     }
@@ -67,19 +59,13 @@ impl Cases {
     }
 }
 
-fn cases() -> Vec<Case> {
+pub fn cases() -> Vec<Case> {
     let mut cases = Cases::default();
     document(&mut cases);
     valid(&mut cases);
     fields(&mut cases);
     refused(&mut cases);
     cases.list
-}
-
-pub fn write(dir: &Path) -> std::io::Result<()> {
-    let cases = cases();
-    let lines = cases.iter().map(Case::line).collect();
-    crate::store(dir, cases.iter().flat_map(Case::bytes).collect(), lines)
 }
 
 #[cfg(test)]
@@ -209,7 +195,7 @@ mod tests {
         let one = &cases[0].bytes();
         assert_eq!(one.len(), 40 + 4 * 37);
         assert_eq!(one[..12], [37, 0, 0, 0, 0x90, 0x0b, 0, 0, 0, 0, 0, 0]);
-        assert_eq!(one[36..44], [24, 0, 0, 0, 0x04, 0, 0x01, 0x70]);
+        assert_eq!(one[36..44], [25, 0, 0, 0, 0x04, 0, 0x01, 0x70]);
         assert_eq!(one[40 + 4 * 36..], [0, 0, 0, 0x05]);
         assert_eq!(cases[0].line(), "accept 2960 2960 0 0 00000000000000003f0000010f0000000000000000000000\n");
         assert_eq!(cases[1].line(), "refuse 14 24 2960 2960 0 0 -\n");

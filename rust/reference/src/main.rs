@@ -4,8 +4,7 @@
 //!
 //!     reference leaf DIR      writes DIR/stdin and DIR/stdout, the cases of crates/leaf_cases
 //!     reference command DIR   the same for headers, commands read alone and records written alone
-//!     reference batch DIR     the same for whole batches beside their buffers' lengths
-//!     reference decode DIR    the same for whole batches decoded into a lent log
+//!     reference batch DIR     the same for whole batches beside their buffers' lengths, checked and decoded
 
 mod batch;
 mod batch_cases;
@@ -51,9 +50,8 @@ fn main() -> ExitCode {
         ["leaf", dir] => leaf::write(Path::new(dir)),
         ["command", dir] => cases::write(Path::new(dir)),
         ["batch", dir] => batch_cases::write(Path::new(dir)),
-        ["decode", dir] => decode_cases::write(Path::new(dir)),
         _ => {
-            eprintln!("usage: reference leaf|command|batch|decode DIR");
+            eprintln!("usage: reference leaf|command|batch DIR");
             return ExitCode::from(2);
         }
     };

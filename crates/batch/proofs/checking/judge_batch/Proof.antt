@@ -7,7 +7,6 @@ use borrow.Author.Needs.{needs}
 use lib.ListN.{length, drop}
 use Rattle.progress.specs.Progress.{fresh}
 use Rattle.progress.specs.declared.Progress.{Progress}
-use Rattle.progress.specs.declared.Verdict.{Verdict}
 use Rattle.progress.specs.declared.Verdict.the-variants.{Next, Stop}
 use Rattle.batch.specs.Walk.{going, step, walkOf}
 use Rattle.batch.specs.Reports.{ending, verdictOf}

@@ -1,0 +1,72 @@
+-- What is measured under lengths.
+use mathlib.Core.Bool.{Bool, true, false}
+use mathlib.Core.Path.{_≡_, refl, ap, _∙_}
+use Prim.Native.Nat.{_≤_, _<_}
+use native.Mathlib.Omega.{arith}
+use borrow.Author.Tests.{leb-true, leb-false}
+use lib.Dec.{leb}
+use Rattle.answers.proofs.Judging.{firstBroken, in-order}
+use Rattle.progress.specs.Buffers.{Buffer, source, reconstructed, forward, backward, bufferNumber, extentOf}
+use Rattle.progress.specs.declared.Extents.{Extents}
+use Rattle.batch.specs.Reports.{lengthOf, bufferRules, reporting, measured}
+use Rattle.batch.specs.declared.Lengths.{Lengths}
+use Rattle.batch.specs.declared.Report.the-variants.{Accepted, Short}
+
+-- All buffers are long enough, or one is the lowest that is not.
+pub data Outcome (e : Extents) (l : Lengths) : Type 0 where
+  enough : ((b : Buffer) → extentOf b e .end ≤ lengthOf b l) → measured e l ≡ Accepted e → Outcome e l
+  short : (c : Buffer) → lengthOf c l < extentOf c e .end → ((b : Buffer) → bufferNumber b < bufferNumber c → extentOf b e .end ≤ lengthOf b l)
+      → measured e l ≡ Short 13 (bufferNumber c) e → Outcome e l
+
+module _ (e : Extents) (l : Lengths) where
+  abbrev Long : Buffer → Type 0
+  Long b = extentOf b e .end ≤ lengthOf b l
+
+  abbrev long : Buffer → Bool
+  long b = leb (extentOf b e .end) (lengthOf b l)
+
+  below-1 : Long source → (b : Buffer) → bufferNumber b < 1 → Long b
+  below-1 s source h = s
+  below-1 s reconstructed h = absurd (omega arith)
+  below-1 s forward h = absurd (omega arith)
+  below-1 s backward h = absurd (omega arith)
+
+  below-2 : Long source → Long reconstructed → (b : Buffer) → bufferNumber b < 2 → Long b
+  below-2 s r source h = s
+  below-2 s r reconstructed h = r
+  below-2 s r forward h = absurd (omega arith)
+  below-2 s r backward h = absurd (omega arith)
+
+  below-3 : Long source → Long reconstructed → Long forward → (b : Buffer) → bufferNumber b < 3 → Long b
+  below-3 s r f source h = s
+  below-3 s r f reconstructed h = r
+  below-3 s r f forward h = f
+  below-3 s r f backward h = absurd (omega arith)
+
+  all-four : Long source → Long reconstructed → Long forward → Long backward → (b : Buffer) → Long b
+  all-four s r f k source = s
+  all-four s r f k reconstructed = r
+  all-four s r f k forward = f
+  all-four s r f k backward = k
+
+  in-turn : measured e l ≡ reporting e (firstBroken (bufferRules e l))
+  unfolding measured bufferRules
+  in-turn = ap (reporting e) (in-order (bufferRules e l) tt)
+
+  pub outcome : Outcome e l
+  unfolding bufferRules
+  outcome = by (long source) (long reconstructed) (long forward) (long backward) refl refl refl refl
+    where
+      yes : (b : Buffer) → long b ≡ true → Long b
+      yes b h = leb-true (extentOf b e .end) (lengthOf b l) h
+
+      not-so : (b : Buffer) → long b ≡ false → lengthOf b l < extentOf b e .end
+      not-so b h = leb-false (extentOf b e .end) (lengthOf b l) h
+
+      by : (s r f k : Bool) → long source ≡ s → long reconstructed ≡ r → long forward ≡ f → long backward ≡ k → Outcome e l
+      by false r f k es er ef ek = short source (not-so source es) (λ b h. absurd (omega arith)) (in-turn ∙ simp es)
+      by true false f k es er ef ek = short reconstructed (not-so reconstructed er) (below-1 (yes source es)) (in-turn ∙ simp (es, er))
+      by true true false k es er ef ek = short forward (not-so forward ef) (below-2 (yes source es) (yes reconstructed er)) (in-turn ∙ simp (es, er, ef))
+      by true true true false es er ef ek =
+          short backward (not-so backward ek) (below-3 (yes source es) (yes reconstructed er) (yes forward ef)) (in-turn ∙ simp (es, er, ef, ek))
+      by true true true true es er ef ek = enough (all-four (yes source es) (yes reconstructed er) (yes forward ef) (yes backward ek)) (in-turn ∙ simp (es, er, ef, ek))
