@@ -1,0 +1,5 @@
+// Decoding: the log of a batch.
+mod decoding;
+mod writing;
+
+pub use decoding::decode;
