@@ -4,7 +4,8 @@
 - Every public function of a library has an ensures and no requires, and two must-fail edits name it.
 - Every must-fail edit says what it guards and why, and was refused at a fact: not because the proof no longer fits the
   code. Where it names the law that refuses it, that law is among what failed.
-- Every name that docs/CLAIMS.md cites stands in the file that it cites.
+- Every name that docs/CLAIMS.md cites stands in the file that it cites, and every edit that it cites is there.
+- No law above `prediction` unfolds one of its definitions, worked numbers apart.
 - Nothing names a path of one machine.
 """
 import pathlib
@@ -98,13 +99,33 @@ def declares(file, name):
 
 
 def check_claims():
-    """A claim is cited as `name` (`path`)."""
-    cited = re.findall(r'`([^`\s]+)` \(`([^`\s]+)`\)', (root / 'docs' / 'CLAIMS.md').read_text())
+    """A claim is cited as `name` (`path`), an edit as `crate/edit`."""
+    text = (root / 'docs' / 'CLAIMS.md').read_text()
+    cited = re.findall(r'`([^`\s]+)` \(`([^`\s]+)`\)', text)
     for name, path in cited:
         file = root / path
         if not file.is_file() or not declares(file, name):
             faults.append(f'docs/CLAIMS.md: {name} does not stand in {path}')
-    return len(cited)
+    tried = re.findall(r'`(\w+)/(\w+)`', text)
+    for crate, edit in tried:
+        if not (root / 'crates' / crate / 'must-fail' / f'{edit}.edit').is_file():
+            faults.append(f'docs/CLAIMS.md: there is no edit {crate}/{edit}')
+    return len(cited) + len(tried)
+
+
+def check_unfolding():
+    """Worked numbers compute; every other law above `prediction` cites what it promises."""
+    count = 0
+    for file in sorted(root.glob('crates/*/proofs/**/*.antt')):
+        if file.is_relative_to(root / 'crates' / 'prediction') or file.name in ('Worked.antt', 'Cases.antt'):
+            continue
+        count += 1
+        text = file.read_text()
+        names = {n for group in re.findall(r'^use Rattle\.prediction\.specs\.(?!declared)\S+\.\{(.*)\}$', text, re.M) for n in group.split(', ')}
+        unfolded = {n for group in re.findall(r'^ *unfolding (.*(?:\n {4,}\S.*)*)', text, re.M) for n in group.split()}
+        for name in sorted(names & unfolded):
+            faults.append(f'{file.relative_to(root)}: unfolds {name} of prediction')
+    return count
 
 
 def check_paths():
@@ -121,9 +142,9 @@ def check_paths():
     return len(files) - 1
 
 
-functions, refusals, claims, files = check_contracts(), check_refusals(), check_claims(), check_paths()
-if min(functions, refusals, claims, files) == 0:
-    faults.append('nothing was checked: no public function, no refusal, no claim or no file was found')
+functions, refusals, claims, laws, files = check_contracts(), check_refusals(), check_claims(), check_unfolding(), check_paths()
+if min(functions, refusals, claims, laws, files) == 0:
+    faults.append('nothing was checked: no public function, no refusal, no claim, no law or no file was found')
 for fault in faults:
     print(f'repository: {fault}')
 print(f'repository: {functions} public functions, {refusals} refused edits, {claims} citations, {files} files, {len(faults)} faults')

@@ -1,10 +1,12 @@
 -- What is measured under lengths.
 use mathlib.Core.Bool.{Bool, true, false}
+use mathlib.Core.List.{List, [], _∷_}
 use mathlib.Core.Path.{_≡_, refl, ap, _∙_}
 use Prim.Native.Nat.{_≤_, _<_}
 use native.Mathlib.Omega.{arith}
 use borrow.Author.Tests.{leb-true, leb-false}
 use lib.Dec.{leb}
+use Rattle.answers.specs.Answers.{Rule, rule}
 use Rattle.answers.proofs.Judging.{firstBroken, in-order}
 use Rattle.progress.specs.Buffers.{Buffer, source, reconstructed, forward, backward, bufferNumber, extentOf}
 use Rattle.progress.specs.declared.Extents.{Extents}
@@ -49,12 +51,15 @@ module _ (e : Extents) (l : Lengths) where
   all-four s r f k forward = f
   all-four s r f k backward = k
 
-  in-turn : measured e l ≡ reporting e (firstBroken (bufferRules e l))
+  -- one buffer after the other
+  abbrev turns : Bool → Bool → Bool → Bool → List Rule
+  turns s r f k = rule 13 0 s ∷ rule 13 1 r ∷ rule 13 2 f ∷ rule 13 3 k ∷ []
+
+  in-turn : measured e l ≡ reporting e (firstBroken (turns (long source) (long reconstructed) (long forward) (long backward)))
   unfolding measured bufferRules
   in-turn = ap (reporting e) (in-order (bufferRules e l) tt)
 
   pub outcome : Outcome e l
-  unfolding bufferRules
   outcome = by (long source) (long reconstructed) (long forward) (long backward) refl refl refl refl
     where
       yes : (b : Buffer) → long b ≡ true → Long b
