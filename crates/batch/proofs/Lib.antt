@@ -1,6 +1,7 @@
 -- for the crates above
 pub mod BufferLengths
 pub mod CommandList
+pub mod CutLaws
 pub mod Numbers
 pub mod ReadAlone
 pub mod Runs

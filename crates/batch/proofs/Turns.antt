@@ -7,24 +7,19 @@ use native.Mathlib.Nat.{add-assoc, add-zero}
 use native.Mathlib.Numerals.{add-one}
 use native.Mathlib.Omega.{arith}
 use borrow.Author.Tests.{lt-leb, eq-eqb, ne-eqb}
-use lib.ListN.{length, getD, take, drop, length-drop, take-append-drop, drop-of-length-le}
-use lib.Seq.{drop-cons, drop-drop, getD-drop, length-take-le}
+use lib.ListN.{length, take, drop, length-drop, take-append-drop, drop-of-length-le}
+use lib.Seq.{drop-cons, drop-drop, length-take-le}
 use Rattle.headers.specs.Headers.{headerOf, wordsIn}
 use Rattle.headers.specs.Words.{wordAt}
 use Rattle.headers.specs.declared.Header.{Header}
-use Rattle.headers.specs.declared.Header.the-variants.{Known, Carried, Unknown}
-use Rattle.headers.specs.declared.Opcode.{Opcode}
-use Rattle.headers.proofs.HeaderLaws.{known-size, carried-size}
+use Rattle.headers.specs.declared.Header.the-variants.{Unknown}
+use Rattle.headers.proofs.HeaderLaws.{word-there}
 use Rattle.progress.specs.declared.Progress.{Progress}
 use Rattle.judging.specs.Judging.{judge}
 use Rattle.progress.specs.declared.Verdict.{Verdict}
 use Rattle.batch.specs.Walk.{Walk, going, stopped, limit, after, step, walkOf}
 use Rattle.batch.specs.declared.Walked.the-variants.{Going}
 use Rattle.batch.proofs.WalkLaws.{stays, gather, command, full, used-within}
-
--- the word at `at` of a list is the first of what begins there
-word-there : (at : ℕ) (ws : List ℕ) → wordAt (drop at ws) 0 ≡ wordAt ws at
-word-there at ws = getD-drop at ws 0 0 ∙ ap (λ (k : ℕ). getD ws k 0) (add-zero at)
 
 -- a whole command stands there
 pub turn : (base at n : ℕ) (p : Progress) (ws : List ℕ) (h : Header) (v : Verdict) → p .stage .ended ≡ false → base + length ws ≤ limit → 1 ≤ n
@@ -79,22 +74,6 @@ module _ (base at : ℕ) (p : Progress) (ws : List ℕ) (l : base + length ws �
 pub finished : (base at : ℕ) (p : Progress) (ws : List ℕ) → length ws ≤ at
     → foldl step (going (base + at) p []) (drop at ws) ≡ going (base + at) p (drop at ws)
 finished base at p ws h = rw (drop-of-length-le ws h)
-
--- a header that was read and begins a command of n words
-pub record Begun (w : ℕ) (h : Header) (n : ℕ) : Type 0 where
-  pub is : headerOf w ≡ h
-  pub count : n ≡ wordsIn h
-  pub some : 1 ≤ n
-
-pub begun-known : (w : ℕ) (h : Header) (o : Opcode) (n : ℕ) → h ≡ headerOf w → h ≡ Known o n → Begun w (Known o n) n
-begun-known w h o n e f =
-    let g : headerOf w ≡ Known o n = sym e ∙ f in
-    record { is = g; count = refl; some = known-size w o n g .0 }
-
-pub begun-carried : (w : ℕ) (h : Header) (n : ℕ) → h ≡ headerOf w → h ≡ Carried n → Begun w (Carried n) n
-begun-carried w h n e f =
-    let g : headerOf w ≡ Carried n = sym e ∙ f in
-    record { is = g; count = refl; some = carried-size w n g .0 }
 
 -- where the words up to the limit are refused, all are
 pub capped-stopped : (s : Walk) (m : ℕ) (ws : List ℕ) (n place : ℕ) → stopped n place ≡ foldl step s (take m ws)

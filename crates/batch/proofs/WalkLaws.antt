@@ -13,7 +13,7 @@ use lib.Seq.{length-take-le}
 use Rattle.headers.specs.Headers.{headerOf, wordsIn}
 use Rattle.headers.specs.Words.{wordAt}
 use Rattle.headers.specs.declared.Header.{Header}
-use Rattle.headers.proofs.HeaderLaws.{words-few}
+use Rattle.headers.proofs.HeaderLaws.{words-few, head-stays}
 use Rattle.progress.specs.declared.Progress.{Progress}
 use Rattle.judging.specs.Judging.{judge}
 use Rattle.progress.specs.declared.Verdict.{Verdict}
@@ -26,11 +26,6 @@ pub stays : (n place : ℕ) (ws : List ℕ) → foldl step (stopped n place) ws 
 unfolding step
 stays n place [] = refl
 stays n place (w ∷ ws) = stays n place ws
-
--- the first word of a command is not changed by what follows
-head-stays : (g : List ℕ) (w : ℕ) (ws : List ℕ) → wordAt (g ++ (w ∷ ws)) 0 ≡ wordAt (g ++ (w ∷ [])) 0
-head-stays [] w ws = refl
-head-stays (x ∷ g) w ws = refl
 
 -- one word, with which the command is not whole
 one-more : (at : ℕ) (p : Progress) (g : List ℕ) (w : ℕ) → p .stage .ended ≡ false → at + length g < limit

@@ -2,6 +2,5 @@
 pub mod DecodingLaws
 pub mod DecodingLengths
 -- for this crate alone
-mod CutLaws
 mod LogLaws
 mod Outcomes

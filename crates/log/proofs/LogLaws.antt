@@ -22,7 +22,7 @@ use Rattle.records.specs.Records.{recordOf}
 use Rattle.records.proofs.RoundTrips.{record-length}
 use Rattle.batch.specs.Commands.{commandsOf, macroblocksIn}
 use Rattle.log.specs.Logs.{recordAlone, logOf}
-use Rattle.log.proofs.CutLaws.{left, Stands}
+use Rattle.batch.proofs.CutLaws.{left, Stands}
 
 -- Lists of n elements, one behind the other: how long they are together, and the k-th of them.
 module _ {A : Type 0} (piece : A → List ℕ) (n : ℕ) (size : (a : A) → length (piece a) ≡ n) where

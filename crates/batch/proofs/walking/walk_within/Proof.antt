@@ -9,10 +9,11 @@ use borrow.Author.Needs.{needs}
 use lib.ListN.{length, drop}
 use Rattle.headers.specs.Words.{wordAt}
 use Rattle.progress.specs.declared.Verdict.{Verdict}
+use Rattle.headers.proofs.HeaderLaws.{Begun, begun-known, begun-carried}
 use Rattle.judging.proofs.JudgingLaws.{stops-within}
 use Rattle.batch.specs.Walk.{step, going, after}
 use Rattle.batch.proofs.WalkLaws.{stays}
-use Rattle.batch.proofs.Turns.{turn, turn-zero, turn-behind, turn-unknown, turn-short, finished, Begun, begun-known, begun-carried}
+use Rattle.batch.proofs.Turns.{turn, turn-zero, turn-behind, turn-unknown, turn-short, finished}
 use Rattle.batch.proofs.walking.walk_within.Statement.{statement}
 use Rattle.batch.proofs.walking.walk_within.Tie as tie
 

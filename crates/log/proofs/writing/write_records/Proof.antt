@@ -1,12 +1,13 @@
 -- The records of the commands before word `at` are in their places.
 use mathlib.Core.Logic.{⊎-elim}
-use mathlib.Core.Path.{_≡_, sym, _∙_}
+use mathlib.Core.Path.{sym, _∙_}
 use Prim.Native.Nat.{_+_, _-_, _≤_}
 use native.Mathlib.Omega.{arith}
 use borrow.Author.Needs.{needs}
 use lib.ListN.{length}
 use Rattle.headers.specs.Words.{wordAt}
-use Rattle.log.proofs.CutLaws.{Stands, left-whole, left-unknown, left-short, left-end, Begun, begun-known, begun-carried}
+use Rattle.headers.proofs.HeaderLaws.{Begun, begun-known, begun-carried}
+use Rattle.batch.proofs.CutLaws.{Stands, left-whole, left-unknown, left-short, left-end}
 use Rattle.log.proofs.LogLaws.{Writing, writing-begins, writing-on, writing-ends, next-fits}
 use Rattle.log.proofs.writing.write_records.Statement.{statement}
 use Rattle.log.proofs.writing.write_records.Tie as tie
@@ -64,7 +65,7 @@ returns : tie.Need-returns Inv-loop μ-loop
 returns c =
     let l = c .before .before .before .before .before in
     writing-ends (l .loop .inv)
-    (left-unknown (l .loop .at) (l .before .before .before .args .words .now) (c .before .before .before .before .loop-test .taken)
+    (left-unknown (l .loop .at) (l .before .before .before .args .words .now) (search needs)
     (sym (c .before .before .read-header .ensures) ∙ c .enum-told .given .1))
 
 sub-if1 : tie.Need-sub-if1 Inv-loop μ-loop

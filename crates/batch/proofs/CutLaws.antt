@@ -3,27 +3,21 @@ use mathlib.Core.Bool.{cond}
 use mathlib.Core.List.{List, [], _∷_, _++_, append-assoc}
 use mathlib.Core.Path.{_≡_, refl, sym, _∙_, ap}
 use Prim.Native.Nat.{ℕ, zero, suc, _+_, _-_, _≤_, _<_}
-use native.Mathlib.Nat.{add-zero, not-suc-le-zero}
+use native.Mathlib.Nat.{not-suc-le-zero}
 use native.Mathlib.Omega.{arith}
 use borrow.Author.Tests.{lt-ltb, le-ltb, ne-eqb}
-use lib.ListN.{length, getD, take, drop, length-append, length-drop, take-append-drop, drop-of-length-le}
-use lib.Seq.{drop-cons, drop-drop, getD-drop, length-take-le}
+use lib.ListN.{length, take, drop, length-append, length-drop, take-append-drop, drop-of-length-le}
+use lib.Seq.{drop-cons, drop-drop, length-take-le}
 use Rattle.headers.specs.Headers.{headerOf, wordsIn, begins}
 use Rattle.headers.specs.Words.{wordAt}
 use Rattle.headers.specs.declared.Header.{Header}
-use Rattle.headers.specs.declared.Header.the-variants.{Known, Carried, Unknown}
-use Rattle.headers.specs.declared.Opcode.{Opcode}
+use Rattle.headers.specs.declared.Header.the-variants.{Unknown}
 use Rattle.headers.specs.declared.Opcode.the-variants.{Macroblock}
-use Rattle.headers.proofs.HeaderLaws.{known-size, carried-size}
+use Rattle.headers.proofs.HeaderLaws.{head-stays, word-there}
 use Rattle.batch.specs.Commands.{Command, cut, macroblocksIn}
 
 abbrev command : ℕ → Header → List ℕ → Command
 command at h ws = record { place = at; header = h; words = ws }
-
--- the first word of a command is not changed by what follows
-head-stays : (g : List ℕ) (w : ℕ) (ws : List ℕ) → wordAt (g ++ (w ∷ ws)) 0 ≡ wordAt (g ++ (w ∷ [])) 0
-head-stays [] w ws = refl
-head-stays (x ∷ g) w ws = refl
 
 -- one word, with which the command is not whole
 one-more : (at : ℕ) (g : List ℕ) (w : ℕ) (ws : List ℕ) → length g + 1 < wordsIn (headerOf (wordAt (g ++ (w ∷ [])) 0))
@@ -79,10 +73,6 @@ whole at (suc n) (w ∷ ws) h some m s c =
 abbrev pub left : ℕ → List ℕ → List (List ℕ)
 left at ws = macroblocksIn (cut at [] (drop at ws))
 
--- the word at `at` of a list is the first of what begins there
-word-there : (at : ℕ) (ws : List ℕ) → wordAt (drop at ws) 0 ≡ wordAt ws at
-word-there at ws = getD-drop at ws 0 0 ∙ ap (λ (k : ℕ). getD ws k 0) (add-zero at)
-
 none-left : (at : ℕ) (ws : List ℕ) → cut at [] (drop at ws) ≡ [] → left at ws ≡ []
 unfolding macroblocksIn
 none-left at ws e = ap macroblocksIn e
@@ -114,19 +104,3 @@ left-short at ws h s z =
 pub left-end : (at : ℕ) (ws : List ℕ) → length ws ≤ at → left at ws ≡ []
 unfolding cut
 left-end at ws h = none-left at ws (rw (drop-of-length-le ws h))
-
--- a header that was read and begins a command of n words
-pub record Begun (w : ℕ) (h : Header) (n : ℕ) : Type 0 where
-  pub is : headerOf w ≡ h
-  pub count : n ≡ wordsIn h
-  pub some : 1 ≤ n
-
-pub begun-known : (w : ℕ) (h : Header) (o : Opcode) (n : ℕ) → h ≡ headerOf w → h ≡ Known o n → Begun w (Known o n) n
-begun-known w h o n e f =
-    let g : headerOf w ≡ Known o n = sym e ∙ f in
-    record { is = g; count = refl; some = known-size w o n g .0 }
-
-pub begun-carried : (w : ℕ) (h : Header) (n : ℕ) → h ≡ headerOf w → h ≡ Carried n → Begun w (Carried n) n
-begun-carried w h n e f =
-    let g : headerOf w ≡ Carried n = sym e ∙ f in
-    record { is = g; count = refl; some = carried-size w n g .0 }
