@@ -1,10 +1,11 @@
-//! Times one whole check of a picture of 256 by 175 macroblocks and a plain loop that reads the same words. Best of many runs of
+//! Times one whole check and one decoding of a picture of 256 by 175 macroblocks and a plain loop that reads the same words. Best of many runs of
 //! each, one after the other in turn; the accepted length of buffer 0 is printed so that nothing can be left out.
 use std::hint::black_box;
 use std::time::Instant;
 
 extern "C" {
     fn speed_check(words: *const u32, len: usize) -> u64;
+    fn speed_decode(words: *const u32, len: usize, log: *mut u8, bytes: usize) -> u64;
 }
 
 const COLUMNS: u32 = 256;
@@ -51,19 +52,25 @@ fn best(runs: usize, mut f: impl FnMut() -> u64) -> f64 {
 fn main() {
     for (coding, name) in [(1, "I"), (2, "P"), (3, "B")] {
         let words = picture(coding);
+        let mut log = vec![0u8; 24 * (COLUMNS * ROWS) as usize];
         let answer = unsafe { speed_check(words.as_ptr(), words.len()) };
-        let (mut check, mut read) = (f64::INFINITY, f64::INFINITY);
+        let decoded = unsafe { speed_decode(words.as_ptr(), words.len(), log.as_mut_ptr(), log.len()) };
+        assert_eq!(answer, decoded);
+        let (mut check, mut decode, mut read) = (f64::INFINITY, f64::INFINITY, f64::INFINITY);
         for _ in 0..20 {
             check = check.min(best(20, || unsafe { speed_check(words.as_ptr(), black_box(words.len())) }));
+            decode = decode.min(best(20, || unsafe { speed_decode(words.as_ptr(), black_box(words.len()), log.as_mut_ptr(), log.len()) }));
             read = read.min(best(20, || black_box(&words).iter().fold(0u64, |sum, &word| sum.wrapping_add(word as u64))));
         }
         println!(
-            "{name}: {} words, length {answer}; check {:.2} ms ({:.0} million words a second), plain sum {:.2} ms, ratio {:.1}",
+            "{name}: {} words, length {answer}; check {:.2} ms ({:.0} million words a second), plain sum {:.2} ms, ratio {:.1}; decode {:.2} ms, {:.2} times the check",
             words.len(),
             check * 1e3,
             words.len() as f64 / check / 1e6,
             read * 1e3,
-            check / read
+            check / read,
+            decode * 1e3,
+            decode / check
         );
     }
 }
