@@ -1,7 +1,7 @@
 -- Document 01's own numbers, computed from the definitions.
 use mathlib.Core.Path.{_≡_, refl}
 use mathlib.Core.List.{List, [], _∷_, map}
-use Prim.Native.Nat.{ℕ, _+_}
+use Prim.Native.Nat.{ℕ}
 use Rattle.answers.specs.Answers.{judged, numberOf, placeOf}
 use Rattle.prediction.specs.Vectors.{vectorOf, wordOf}
 use Rattle.command.specs.Cases.{motionOf, caseOf, vectorWords}

@@ -3,7 +3,6 @@ use Prim.Native.Nat.{ℕ}
 use mathlib.Core.Bool.{Bool, true, false, cond}
 use mathlib.Core.List.{List, [], _∷_}
 use lib.Dec.{eqb}
-use lib.ListN.{getD}
 use Rattle.fields.specs.Word.{Field, bits, isSet, flag, field, packed}
 use Rattle.headers.specs.Words.{wordAt}
 use Rattle.headers.specs.Headers.{macroblockHeader}

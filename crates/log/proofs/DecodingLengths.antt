@@ -34,19 +34,21 @@ module _ (needed : ℕ) (log : List ℕ) where
   keeps (Short n place e) k = k
   keeps (Refused n place) k = k
 
--- Demand 3 of decoding: 1 to 12 and 27 fall on the batch as on the check, 13 comes before 14, and with 14 the same lengths are reported.
-pub demand-decoding : (log ws : List ℕ) (l₀ : Lengths) → KeepsOthers (decoded l₀ ws log) → Demand3 ws (RoomIn log ws) (DecodedInto log ws)
+-- Demand 3 of decoding into any log: 13 comes before 14, and with 14 the same lengths are reported. That the batch keeps the other
+-- rules is asked under some lengths and some log.
+pub demand-decoding : (ws : List ℕ) (l₀ : Lengths) (log₀ : List ℕ) → KeepsOthers (decoded l₀ ws log₀)
+    → (log : List ℕ) → Demand3 ws (RoomIn log ws) (DecodedInto log ws)
 unfolding decoded
-demand-decoding log ws l₀ kept =
+demand-decoding ws l₀ log₀ kept log =
     let needed = logLength (pictureIn ws .grid) in
-    demand-by ws (RoomIn log ws) (roomed needed log) (settles needed log) (DecodedInto log ws) (λ l r a. a) l₀ (keeps needed log (report l₀ ws) kept)
+    demand-by ws (RoomIn log ws) (roomed needed log) (settles needed log) (DecodedInto log ws) (λ l r a. a) l₀ (keeps needed log₀ (report l₀ ws) kept)
 
 -- "Under any two sets of lengths that are all long enough, the answer and the records are the same": the whole log afterwards, from the
 -- same log before.
-pub same-records : (log ws : List ℕ) (l k : Lengths) → KeepsOthers (decoded l ws log)
+pub same-records : (ws log : List ℕ) (l k : Lengths) → KeepsOthers (decoded l ws log)
     → AllEnough (decoded l ws log) l → AllEnough (decoded k ws log) k
     → (decoded l ws log ≡ decoded k ws log) × (decodedLog l ws log ≡ decodedLog k ws log)
 unfolding decodedLog
-same-records log ws l k kept h i =
-    let same = demand-decoding log ws l kept .same-answer l k (decoded l ws log) (decoded k ws log) refl refl h i in
+same-records ws log l k kept h i =
+    let same = demand-decoding ws l log kept log .same-answer l k (decoded l ws log) (decoded k ws log) refl refl h i in
     (same, ap (λ (r : Report). logAfter r (logOf ws) log) same)
