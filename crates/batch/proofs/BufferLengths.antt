@@ -23,6 +23,10 @@ use Rattle.batch.proofs.Measuring.{Outcome, enough, short, outcome}
 use Rattle.batch.proofs.Numbers.{verdict-numbers}
 use Rattle.batch.proofs.Runs.{gone-through}
 
+-- A batch that passes keeps every rule.
+pub passed-keeps : (r : Report) → numberOf r ≡ 0 → KeepsOthers r
+passed-keeps r e = record { none-to-12 = λ h i. omega arith; not-27 = λ h. omega arith }
+
 -- A batch that keeps every rule but the one on buffer length has come to its END.
 pub kept-verdict : (l : Lengths) (ws : List ℕ) → KeepsOthers (report l ws) → (p : Progress) × (verdictOf ws ≡ Next p)
 unfolding report
@@ -53,9 +57,12 @@ exact-length {T} e x = by (e .end) refl
 
 -- What an operation makes of the answer to the whole batch: it leaves a refusal by 13 as it is, and may refuse an accepted batch by 14,
 -- for want of room.
+abbrev pub Accepts : Type 0 → Extents → Report → Type 0
+Accepts Room e r = (r ≡ Accepted e) ⊎ ((Room → ⊥) × (needed : ℕ) × (r ≡ Short 14 needed e))
+
 pub record Settles (Room : Type 0) (settle : Report → Report) : Type 0 where
   pub keeps-13 : (place : ℕ) (e : Extents) → settle (Short 13 place e) ≡ Short 13 place e
-  pub accepts : (e : Extents) → (settle (Accepted e) ≡ Accepted e) ⊎ ((Room → ⊥) × (needed : ℕ) × (settle (Accepted e) ≡ Short 14 needed e))
+  pub accepts : (e : Extents) → Accepts Room e (settle (Accepted e))
 
 -- the check itself
 pub settles-nothing : Settles (Unit {0}) (λ r. r)
@@ -75,7 +82,7 @@ module _ (ws : List ℕ) (e : Extents) (Room : Type 0) (settle : Report → Repo
   reports : reportedOf r ≡ lengthsIn e
   reports = by (outcome e l)
     where
-      room : (settle (Accepted e) ≡ Accepted e) ⊎ ((Room → ⊥) × (needed : ℕ) × (settle (Accepted e) ≡ Short 14 needed e)) → measured e l ≡ Accepted e → reportedOf r ≡ lengthsIn e
+      room : Accepts Room e (settle (Accepted e)) → measured e l ≡ Accepted e → reportedOf r ≡ lengthsIn e
       room (inl s) m = ap reportedOf (is ∙ ap settle m ∙ s)
       room (inr s) m = ap reportedOf (is ∙ ap settle m ∙ s .2)
 
@@ -97,7 +104,7 @@ module _ (ws : List ℕ) (e : Extents) (Room : Type 0) (settle : Report → Repo
   passing : Room → AllEnough r l → numberOf r ≡ 0
   passing room h = by (settles .accepts e)
     where
-      by : (settle (Accepted e) ≡ Accepted e) ⊎ ((Room → ⊥) × (needed : ℕ) × (settle (Accepted e) ≡ Short 14 needed e)) → numberOf r ≡ 0
+      by : Accepts Room e (settle (Accepted e)) → numberOf r ≡ 0
       by (inl s) = ap numberOf (all-long h ∙ s)
       by (inr s) = absurd (s .0 room)
 

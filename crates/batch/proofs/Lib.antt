@@ -9,5 +9,6 @@ pub mod WalkLaws
 -- for this crate alone
 mod Cases
 mod Exactness
+mod Gathering
 mod Measuring
 mod Turns

@@ -29,7 +29,7 @@ turn base at n p ws h v e l some m s c j =
     let len : length (drop at ws) ≡ length ws - at = length-drop at ws in
     let n' : at + n - at ≡ n = omega arith in
     rw (← j, n', ← drop-drop n at ws, ← add-assoc base at n)
-    (command (base + at) p n (drop at ws) h e (omega arith) some (omega arith) (ap headerOf (word-there at ws) ∙ s) c)
+    (command (base + at) p e n (drop at ws) h (omega arith) some (omega arith) (ap headerOf (word-there at ws) ∙ s) c)
 
 module _ (base at : ℕ) (p : Progress) (ws : List ℕ) (l : base + length ws ≤ limit) (m : at < length ws) where
   first-word : foldl step (going (base + at) p []) (drop at ws)
@@ -68,7 +68,7 @@ module _ (base at : ℕ) (p : Progress) (ws : List ℕ) (l : base + length ws �
   turn-short h e s z =
       let len : length (drop at ws) ≡ length ws - at = length-drop at ws in
       let size : wordsIn (headerOf (wordAt (drop at ws) 0)) ≡ wordsIn h = ap wordsIn (ap headerOf (word-there at ws) ∙ s) in
-      gather (base + at) p [] (drop at ws) e (omega arith) (omega arith)
+      gather (base + at) p e [] (drop at ws) (omega arith) (omega arith)
 
 -- at the end of the run nothing is left
 pub finished : (base at : ℕ) (p : Progress) (ws : List ℕ) → length ws ≤ at

@@ -1,25 +1,26 @@
 -- What the fold over a batch's words does: with the words of one command, at the limit, and where it goes on.
 use mathlib.Core.Bool.{Bool, true, false, cond}
-use mathlib.Core.List.{List, [], _∷_, _++_, foldl, foldl-append, append-assoc, append-nil}
+use mathlib.Core.List.{List, [], _∷_, _++_, foldl, foldl-append}
 use mathlib.Core.Logic.{_⊎_, inl, inr}
 use mathlib.Core.Path.{_≡_, refl, sym, _∙_, ap, subst}
-use Prim.Native.Nat.{ℕ, zero, suc, _+_, _≤_, _<_}
+use Prim.Native.Nat.{ℕ, suc, _+_, _≤_, _<_}
 use native.Mathlib.Nat.{add-zero, not-suc-le-zero}
 use native.Mathlib.Omega.{arith}
 use borrow.Author.Tests.{lt-ltb, le-ltb, lt-leb, le-leb, ne-eqb, ltb-true, leb-false}
 use lib.Dec.{eqb, leb, ltb}
-use lib.ListN.{length, take, drop, length-append, length-drop, take-append-drop}
+use lib.ListN.{length, take, drop, length-append, length-drop}
 use lib.Seq.{length-take-le}
 use Rattle.headers.specs.Headers.{headerOf, wordsIn}
 use Rattle.headers.specs.Words.{wordAt}
 use Rattle.headers.specs.declared.Header.{Header}
-use Rattle.headers.proofs.HeaderLaws.{words-few, head-stays}
+use Rattle.headers.proofs.HeaderLaws.{words-few}
 use Rattle.progress.specs.declared.Progress.{Progress}
 use Rattle.judging.specs.Judging.{judge}
 use Rattle.progress.specs.declared.Verdict.{Verdict}
 use Rattle.progress.specs.declared.Verdict.the-variants.{Next, Stop}
 use Rattle.batch.specs.Walk.{Walk, going, stopped, limit, after, step, walkOf}
 use Rattle.batch.specs.declared.Walked.the-variants.{Going}
+use Rattle.batch.proofs.Gathering.{gathered, first-whole}
 
 -- After a refusal nothing changes.
 pub stays : (n place : ℕ) (ws : List ℕ) → foldl step (stopped n place) ws ≡ stopped n place
@@ -27,62 +28,41 @@ unfolding step
 stays n place [] = refl
 stays n place (w ∷ ws) = stays n place ws
 
--- one word, with which the command is not whole
-one-more : (at : ℕ) (p : Progress) (g : List ℕ) (w : ℕ) → p .stage .ended ≡ false → at + length g < limit
-    → length g + 1 < wordsIn (headerOf (wordAt (g ++ (w ∷ [])) 0)) → step (going at p g) w ≡ going at p (g ++ (w ∷ []))
-unfolding step
-one-more at p g w e l h =
-    let n = wordsIn (headerOf (wordAt (g ++ (w ∷ [])) 0)) in
-    let len : length (g ++ (w ∷ [])) ≡ length g + 1 = length-append g (w ∷ []) in
-    simp (lt-leb limit (at + length g) l, e, ne-eqb n 0 (λ z. omega arith), lt-ltb (length (g ++ (w ∷ []))) n (omega arith))
+-- A walk, with the words that are judged, of a batch whose END has not come.
+module _ (at : ℕ) (p : Progress) (e : p .stage .ended ≡ false) where
+  abbrev read : List ℕ → List ℕ → Walk
+  read g ws = foldl step (going at p g) ws
 
--- the last word of a command
-last-one : (at : ℕ) (p : Progress) (g : List ℕ) (w : ℕ) (h : Header) → p .stage .ended ≡ false → at + length g < limit
-    → headerOf (wordAt (g ++ (w ∷ [])) 0) ≡ h → length g + 1 ≡ wordsIn h
-    → step (going at p g) w ≡ after at (at + length (g ++ (w ∷ []))) (judge h p (g ++ (w ∷ [])))
-unfolding step
-last-one at p g w h e l s m =
-    let len : length (g ++ (w ∷ [])) ≡ length g + 1 = length-append g (w ∷ []) in
-    simp (lt-leb limit (at + length g) l, e, s, ne-eqb (wordsIn h) 0 (λ z. omega arith), le-ltb (length (g ++ (w ∷ []))) (wordsIn h) (omega arith))
+  abbrev done : Header → List ℕ → List ℕ → Walk
+  done h g ws = foldl step (after at (at + length g) (judge h p g)) ws
 
--- The words of a command that is not whole are gathered.
-pub gather : (at : ℕ) (p : Progress) (g ws : List ℕ) → p .stage .ended ≡ false → at + length g + length ws ≤ limit
-    → length g + length ws < wordsIn (headerOf (wordAt (g ++ ws) 0)) → foldl step (going at p g) ws ≡ going at p (g ++ ws)
-gather at p g [] e l h = ap (going at p) (sym (append-nil g))
-gather at p g (w ∷ ws) e l h =
-    let len : length (g ++ (w ∷ [])) ≡ length g + 1 = length-append g (w ∷ []) in
-    let assoc : (g ++ (w ∷ [])) ++ ws ≡ g ++ (w ∷ ws) = append-assoc g (w ∷ []) ws in
-    let h' : length g + suc (length ws) < wordsIn (headerOf (wordAt (g ++ (w ∷ [])) 0)) = rw (head-stays g w ws) at h in
-    rw (one-more at p g w e (omega arith) (omega arith))
-    (rw (← assoc) (gather at p (g ++ (w ∷ [])) ws e (omega arith) (rw assoc (omega arith))))
+  -- one word, with which the command is not whole
+  more : (g : List ℕ) (w : ℕ) (ws : List ℕ) → at + length g < limit → length (g ++ (w ∷ [])) < wordsIn (headerOf (wordAt (g ++ (w ∷ [])) 0))
+      → read g (w ∷ ws) ≡ read (g ++ (w ∷ [])) ws
+  unfolding step
+  more g w ws l h =
+      let n = wordsIn (headerOf (wordAt (g ++ (w ∷ [])) 0)) in
+      simp (lt-leb limit (at + length g) l, e, ne-eqb n 0 (λ z. omega arith), lt-ltb (length (g ++ (w ∷ []))) n h)
 
--- The words that make a command whole, one by one, are the command judged.
-pub complete : (at : ℕ) (p : Progress) (g : List ℕ) (w : ℕ) (ws : List ℕ) (h : Header) → p .stage .ended ≡ false
-    → at + length g + suc (length ws) ≤ limit → headerOf (wordAt (g ++ (w ∷ ws)) 0) ≡ h → length g + suc (length ws) ≡ wordsIn h
-    → foldl step (going at p g) (w ∷ ws) ≡ after at (at + length (g ++ (w ∷ ws))) (judge h p (g ++ (w ∷ ws)))
-complete at p g w [] h e l s m = last-one at p g w h e (omega arith) s (omega arith)
-complete at p g w (v ∷ ws) h e l s m =
-    let len : length (g ++ (w ∷ [])) ≡ length g + 1 = length-append g (w ∷ []) in
-    let assoc : (g ++ (w ∷ [])) ++ (v ∷ ws) ≡ g ++ (w ∷ v ∷ ws) = append-assoc g (w ∷ []) (v ∷ ws) in
-    let first : headerOf (wordAt (g ++ (w ∷ [])) 0) ≡ h = ap headerOf (sym (head-stays g w (v ∷ ws))) ∙ s in
-    let size : wordsIn (headerOf (wordAt (g ++ (w ∷ [])) 0)) ≡ wordsIn h = ap wordsIn first in
-    rw (one-more at p g w e (omega arith) (omega arith))
-    (rw (← assoc) (complete at p (g ++ (w ∷ [])) v ws h e (omega arith) (rw assoc s) (omega arith)))
+  -- the last word of a command
+  last : (g : List ℕ) (w : ℕ) (ws : List ℕ) (h : Header) → at + length g < limit → headerOf (wordAt (g ++ (w ∷ [])) 0) ≡ h
+      → length (g ++ (w ∷ [])) ≡ wordsIn h → read g (w ∷ ws) ≡ done h (g ++ (w ∷ [])) ws
+  unfolding step
+  last g w ws h l s m =
+      let len : length (g ++ (w ∷ [])) ≡ length g + 1 = length-append g (w ∷ []) in
+      simp (lt-leb limit (at + length g) l, e, s, ne-eqb (wordsIn h) 0 (λ z. omega arith), le-ltb (length (g ++ (w ∷ []))) (wordsIn h) (omega arith))
 
--- The fold over words of which the first n are a whole command: that command judged, and the fold over the others.
-pub command : (at : ℕ) (p : Progress) (n : ℕ) (ws : List ℕ) (h : Header) → p .stage .ended ≡ false → at + n ≤ limit → 1 ≤ n
-    → n ≤ length ws → headerOf (wordAt ws 0) ≡ h → n ≡ wordsIn h
-    → foldl step (going at p []) ws ≡ foldl step (after at (at + n) (judge h p (take n ws))) (drop n ws)
-command at p zero ws h e l some m s c = absurd (not-suc-le-zero some)
-command at p (suc n) [] h e l some m s c = absurd (not-suc-le-zero m)
-command at p (suc n) (w ∷ ws) h e l some m s c =
-    let len : length (take n ws) ≡ n = length-take-le n ws (omega arith) in
-    let one : foldl step (going at p []) (w ∷ take n ws) ≡ after at (at + suc n) (judge h p (w ∷ take n ws)) =
-    complete at p [] w (take n ws) h e (omega arith) s (omega arith)
-    ∙ ap (λ (k : ℕ). after at (at + suc k) (judge h p (w ∷ take n ws))) len in
-    ap (λ (l : List ℕ). foldl step (going at p []) (w ∷ l)) (sym (take-append-drop n ws))
-    ∙ foldl-append step (going at p []) (w ∷ take n ws) (drop n ws)
-    ∙ ap (λ (s : Walk). foldl step s (drop n ws)) one
+  -- The words of a command that is not whole are gathered.
+  pub gather : (g ws : List ℕ) → at + length g + length ws ≤ limit → length g + length ws < wordsIn (headerOf (wordAt (g ++ ws) 0))
+      → foldl step (going at p g) ws ≡ going at p (g ++ ws)
+  gather = gathered read done at limit more last
+
+  -- The fold over words of which the first n are a whole command: that command judged, and the fold over the others.
+  pub command : (n : ℕ) (ws : List ℕ) (h : Header) → at + n ≤ limit → 1 ≤ n → n ≤ length ws → headerOf (wordAt ws 0) ≡ h → n ≡ wordsIn h
+      → foldl step (going at p []) ws ≡ foldl step (after at (at + n) (judge h p (take n ws))) (drop n ws)
+  command n ws h l some m s c =
+      first-whole read done at limit more last n ws h l some m s c
+      ∙ ap (λ (k : ℕ). foldl step (after at (at + k) (judge h p (take n ws))) (drop n ws)) (length-take-le n ws m)
 
 -- A walk at the limit is stopped by one more word.
 pub full : (at : ℕ) (p : Progress) (g ws : List ℕ) → 1 ≤ length ws → limit ≤ at + length g → foldl step (going at p g) ws ≡ stopped 27 limit
@@ -215,4 +195,4 @@ resumed at p g ws (inl e) l =
     ap (λ (x : List ℕ). foldl step (going at p x) ws) e ∙ ap (λ (x : List ℕ). foldl step (going at p []) (x ++ ws)) (sym e)
 resumed at p g ws (inr h) l =
     let short = h .1 in
-    sym (foldl-append step (going at p []) g ws ∙ ap (λ (s : Walk). foldl step s ws) (gather at p [] g (h .0) (omega arith) (omega arith)))
+    sym (foldl-append step (going at p []) g ws ∙ ap (λ (s : Walk). foldl step s ws) (gather at p (h .0) [] g (omega arith) (omega arith)))

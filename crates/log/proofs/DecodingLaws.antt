@@ -4,7 +4,7 @@ use mathlib.Core.List.{List, [], _++_, append-nil}
 use mathlib.Core.Path.{_≡_, refl, sym, ap, _∙_, subst}
 use Prim.Native.Nat.{ℕ, _*_, _≤_, _<_}
 use native.Mathlib.Omega.{arith}
-use borrow.Author.Tests.{lt-ltb, le-ltb, ltb-false}
+use borrow.Author.Tests.{ltb-false}
 use lib.Dec.{ltb}
 use lib.ListN.{length, getD, take, drop, replicate, length-append, length-drop}
 use lib.Seq.{drop-at}
@@ -12,22 +12,23 @@ use Rattle.answers.specs.declared.Answer.the-variants as alone
 use Rattle.command.specs.Macroblocks.{macroblockOf}
 use Rattle.progress.specs.declared.Extents.{Extents}
 use Rattle.progress.specs.declared.Progress.{Progress}
-use Rattle.progress.specs.declared.Verdict.{Verdict}
-use Rattle.progress.specs.declared.Verdict.the-variants.{Next, Stop}
+use Rattle.progress.specs.declared.Verdict.the-variants.{Next}
 use Rattle.records.specs.Alone.{readAnswer, readRoom}
 use Rattle.records.specs.Layout.{recordLength}
 use Rattle.records.proofs.RoundTrips.{record-length, read-alone}
 use Rattle.batch.specs.Commands.{commandsOf, macroblocksIn, pictureIn}
-use Rattle.batch.specs.Reports.{numberOf, placeOf, reportedOf, concluding, verdictOf, report}
+use Rattle.batch.specs.Reports.{numberOf, placeOf, reportedOf, verdictOf, report}
 use Rattle.batch.specs.declared.Lengths.{Lengths}
 use Rattle.batch.specs.declared.Report.{Report}
 use Rattle.batch.specs.declared.Report.the-variants.{Accepted, Short, Refused}
+use Rattle.batch.proofs.BufferLengths.{passed-keeps, kept-verdict}
 use Rattle.batch.proofs.Numbers.{accepted-by-0}
 use Rattle.batch.proofs.ReadAlone.{Alone, macroblocks-alone, alone-at}
 use Rattle.batch.proofs.Runs.{gone-through}
 use Rattle.log.specs.Logs.{recordAlone, logOf, logLength, roomed, decoded, logAfter, decodedLog}
 use Rattle.log.proofs.LogLaws.{pieces-length, piece-at}
 use Rattle.log.proofs.Outcomes.{has-ended}
+use Rattle.log.proofs.RoomLaws.{not-passed, unwritten, not-accepted, lacking, roomy}
 
 -- What stands in a log after decoding a batch into it. `before` is the whole log before, `after` the whole log afterwards.
 pub record Decoded (ws before after : List ℕ) : Type 0 where
@@ -52,21 +53,8 @@ front-length new before l =
 front-beyond : (new before : List ℕ) (n : ℕ) → length new ≡ n → drop n (new ++ drop (length new) before) ≡ drop n before
 front-beyond new before n e = drop-at new (drop (length new) before) n e ∙ ap (λ (i : ℕ). drop i before) e
 
--- Room for the log, after all else.
+-- What a decoded batch that passes says of the check and of the room.
 module _ (needed : ℕ) (log : List ℕ) where
-  lacking : (e : Extents) → length log < needed → roomed needed log (Accepted e) ≡ Short 14 needed e
-  lacking e h = simp (lt-ltb (length log) needed h)
-
-  roomy : (r : Report) → needed ≤ length log → roomed needed log r ≡ r
-  roomy (Accepted e) h = simp (le-ltb (length log) needed h)
-  roomy (Short n place e) h = refl
-  roomy (Refused n place) h = refl
-
-  not-accepted : (r : Report) → (numberOf r ≡ 0 → ⊥) → roomed needed log r ≡ r
-  not-accepted (Accepted e) h = absurd (h refl)
-  not-accepted (Short n place e) h = refl
-  not-accepted (Refused n place) h = refl
-
   number-0 : (r : Report) → numberOf (roomed needed log r) ≡ 0 → numberOf r ≡ 0
   number-0 (Accepted e) h = refl
   number-0 (Short n place e) h = h
@@ -96,32 +84,18 @@ long-room l ws log h = roomy (logLength (pictureIn ws .grid)) log (report l ws) 
 
 pub refused-first : (l : Lengths) (ws log : List ℕ) → (numberOf (report l ws) ≡ 0 → ⊥) → decoded l ws log ≡ report l ws
 unfolding decoded
-refused-first l ws log h = not-accepted (logLength (pictureIn ws .grid)) log (report l ws) h
+refused-first l ws log h = not-accepted (logLength (pictureIn ws .grid)) log (report l ws) (not-passed (report l ws) h)
 
 -- "No refusal writes into lent memory."
 pub refusal-writes-nothing : (l : Lengths) (ws log : List ℕ) → (numberOf (decoded l ws log) ≡ 0 → ⊥) → decodedLog l ws log ≡ log
 unfolding decodedLog
-refusal-writes-nothing l ws log h = by (decoded l ws log) h
-  where
-    by : (r : Report) → (numberOf r ≡ 0 → ⊥) → logAfter r (logOf ws) log ≡ log
-    by (Accepted e) h = absurd (h refl)
-    by (Short n place e) h = refl
-    by (Refused n place) h = refl
+refusal-writes-nothing l ws log h = unwritten (decoded l ws log) (logOf ws) log (not-passed (decoded l ws log) h)
 
 -- each macroblock of a batch that keeps the rules can be read alone
 all-alone : (ws : List ℕ) (p : Progress) → verdictOf ws ≡ Next p → (k : ℕ) → k < length (macroblocksIn (commandsOf ws)) → Alone (getD (macroblocksIn (commandsOf ws)) k [])
 all-alone ws p e k l =
     let w = gone-through ws p e in
     alone-at (macroblocksIn (commandsOf ws)) k (macroblocks-alone ws (w .0) p (w .1) (w .2)) l
-
--- an accepted batch keeps the rules
-keeps-rules : (l : Lengths) (ws : List ℕ) (e : Extents) → report l ws ≡ Accepted e → (p : Progress) × (verdictOf ws ≡ Next p)
-unfolding report
-keeps-rules l ws e h = by (verdictOf ws) refl h
-  where
-    by : (v : Verdict) → verdictOf ws ≡ v → concluding l v ≡ Accepted e → (p : Progress) × (verdictOf ws ≡ Next p)
-    by (Next p) s h = (p, s)
-    by (Stop n place) s h = let z : _≡_ {A = ℕ} 0 1 = cc in absurd (omega arith)
 
 -- a command read alone into 24 bytes leaves its record
 record-alone : (m : List ℕ) → Alone m → (readAnswer m (replicate recordLength 0) ≡ alone.Accepted) × (readRoom m (replicate recordLength 0) ≡ recordAlone m)
@@ -134,8 +108,9 @@ unfolding decoded decodedLog logOf
 decodes l ws log h =
     let needed = logLength (pictureIn ws .grid) in
     let ms = macroblocksIn (commandsOf ws) in
-    let a = accepted-by-0 l ws (number-0 needed log (report l ws) h) in
-    let r = keeps-rules l ws (a .0) (a .1) in
+    let passed = number-0 needed log (report l ws) h in
+    let a = accepted-by-0 l ws passed in
+    let r = kept-verdict l ws (passed-keeps (report l ws) passed) in
     let count = has-ended ws (r .0) (r .1) .full in
     let fits : needed ≤ length log = room-for needed log (a .0) (subst (λ (x : Report). numberOf (roomed needed log x) ≡ 0) (a .1) h) in
     let is : decoded l ws log ≡ Accepted (a .0) = roomy needed log (report l ws) fits ∙ a .1 in

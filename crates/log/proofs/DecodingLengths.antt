@@ -1,7 +1,7 @@
 -- Demand 3 of decoding, with any lent log. "Short lent room apart, which is 14".
 use mathlib.Core.Bool.{Bool, true, false, cond}
 use mathlib.Core.List.{List}
-use mathlib.Core.Logic.{_⊎_, inl, inr}
+use mathlib.Core.Logic.{inl, inr}
 use mathlib.Core.Path.{_≡_, refl, ap}
 use Prim.Native.Nat.{ℕ, _≤_}
 use native.Mathlib.Omega.{arith}
@@ -15,7 +15,7 @@ use Rattle.batch.specs.Reports.{report}
 use Rattle.batch.specs.declared.Lengths.{Lengths}
 use Rattle.batch.specs.declared.Report.{Report}
 use Rattle.batch.specs.declared.Report.the-variants.{Accepted, Short, Refused}
-use Rattle.batch.proofs.BufferLengths.{Settles, demand-by}
+use Rattle.batch.proofs.BufferLengths.{passed-keeps, Accepts, Settles, demand-by}
 use Rattle.log.specs.Logs.{logOf, logLength, roomed, decoded, logAfter, decodedLog, DecodedInto, RoomIn}
 
 module _ (needed : ℕ) (log : List ℕ) where
@@ -23,14 +23,13 @@ module _ (needed : ℕ) (log : List ℕ) where
   settles = record { keeps-13 = λ place e. refl; accepts = λ e. by (ltb (length log) needed) refl e }
     where
       by : (b : Bool) → ltb (length log) needed ≡ b → (e : Extents)
-          → (cond b (Short 14 needed e) (Accepted e) ≡ Accepted e)
-          ⊎ ((needed ≤ length log → ⊥) × (n : ℕ) × (cond b (Short 14 needed e) (Accepted e) ≡ Short 14 n e))
+          → Accepts (needed ≤ length log) e (cond b (Short 14 needed e) (Accepted e))
       by true s e = inr (λ h. let l = ltb-true (length log) needed s in omega arith, needed, refl)
       by false s e = inl refl
 
   -- a batch that keeps the other rules when it is decoded keeps them when it is checked
   keeps : (r : Report) → KeepsOthers (roomed needed log r) → KeepsOthers r
-  keeps (Accepted e) k = record { none-to-12 = λ h i. omega arith; not-27 = λ h. omega arith }
+  keeps (Accepted e) k = passed-keeps (Accepted e) refl
   keeps (Short n place e) k = k
   keeps (Refused n place) k = k
 

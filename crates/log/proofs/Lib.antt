@@ -4,3 +4,4 @@ pub mod DecodingLengths
 -- for this crate alone
 mod LogLaws
 mod Outcomes
+mod RoomLaws

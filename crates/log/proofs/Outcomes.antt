@@ -4,7 +4,6 @@ use mathlib.Core.Path.{_≡_, refl, sym, _∙_, ap}
 use Prim.Native.Nat.{ℕ, _*_, _≤_, _<_}
 use native.Mathlib.Nat.{mul-comm}
 use native.Mathlib.Omega.{arith}
-use borrow.Author.Tests.{lt-ltb, le-ltb}
 use lib.ListN.{length, drop}
 use Rattle.progress.specs.declared.Progress.{Progress}
 use Rattle.progress.specs.declared.Verdict.{Verdict}
@@ -18,6 +17,7 @@ use Rattle.batch.proofs.CommandList.{listed}
 use Rattle.batch.proofs.Runs.{gone-through}
 use Rattle.progress.specs.declared.Extents.{Extents}
 use Rattle.log.specs.Logs.{logOf, logLength, roomed, decoded, logAfter, decodedLog}
+use Rattle.log.proofs.RoomLaws.{Other, unwritten, not-accepted, lacking, roomy}
 
 -- What a batch that came to its END says of its picture: the progress has it, and its macroblocks are W·H.
 pub record Ended (ws : List ℕ) (p : Progress) : Type 0 where
@@ -29,17 +29,6 @@ has-ended ws p e =
     let w = gone-through ws p e in
     let l = listed ws (w .0) p (w .1) (w .2) in
     record { picture = l .picture; full = l .full (w .3) ∙ mul-comm (pictureIn ws .grid .rows) (pictureIn ws .grid .columns) }
-
--- a report that accepts nothing is the answer, whatever the room
-abbrev pub Other : Report → Type 0
-Other (Accepted e) = ⊥
-Other (Short n place e) = Unit
-Other (Refused n place) = Unit
-
-other-roomed : (needed : ℕ) (log new : List ℕ) (r : Report) → Other r → (roomed needed log r ≡ r) × (logAfter r new log ≡ log)
-other-roomed needed log new (Accepted e) o = absurd o
-other-roomed needed log new (Short n place e) o = (refl, refl)
-other-roomed needed log new (Refused n place) o = (refl, refl)
 
 module _ (l : Lengths) (ws log : List ℕ) where
   -- the answer, and the log that goes with it
@@ -61,24 +50,23 @@ module _ (l : Lengths) (ws log : List ℕ) where
         ∙ ap (λ x'. roomed (logLength (x' .grid)) log x) (sym (has-ended ws p v .picture))
 
     -- a buffer is too short
-    pub not-accepted : Other r → (r ≡ decoded l ws log) × (log ≡ decodedLog l ws log)
-    not-accepted o =
-        let s = other-roomed (logLength (p .picture .grid)) log (logOf ws) r o in
-        both r log (answer r refl ∙ s .0) (sym (s .1))
+    pub lacks-buffer : Other r → (r ≡ decoded l ws log) × (log ≡ decodedLog l ws log)
+    lacks-buffer o =
+        both r log (answer r refl ∙ not-accepted (logLength (p .picture .grid)) log r o) (sym (unwritten r (logOf ws) log o))
 
     module _ (e : Extents) (a : r ≡ Accepted e) (needed : ℕ) (n : needed ≡ logLength (p .picture .grid)) where
       -- the log is too short
       pub lacks-room : length log < needed → (Short 14 needed e ≡ decoded l ws log) × (log ≡ decodedLog l ws log)
       lacks-room h =
           both (Short 14 needed e) log
-          (answer (Accepted e) a ∙ ap (λ (x : ℕ). roomed x log (Accepted e)) (sym n) ∙ (simp (lt-ltb (length log) needed h)))
+          (answer (Accepted e) a ∙ ap (λ (x : ℕ). roomed x log (Accepted e)) (sym n) ∙ lacking needed log e h)
           refl
 
       -- all is written
       pub writes : (out : List ℕ) → needed ≤ length log → out ≡ logOf ws ++ drop (length (logOf ws)) log → (Accepted e ≡ decoded l ws log) × (out ≡ decodedLog l ws log)
       writes out h o =
           both (Accepted e) out
-          (answer (Accepted e) a ∙ ap (λ (x : ℕ). roomed x log (Accepted e)) (sym n) ∙ (simp (le-ltb (length log) needed h)))
+          (answer (Accepted e) a ∙ ap (λ (x : ℕ). roomed x log (Accepted e)) (sym n) ∙ roomy needed log (Accepted e) h)
           o
 
       -- then there is room for all records

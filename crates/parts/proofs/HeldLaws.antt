@@ -164,7 +164,7 @@ completed at p ws at' p' g' e low some size came =
     let all = counted at p [] ws at' p' g' came in
     let top = within-limit at p [] ws at' p' g' (omega arith) came in
     let h = headerOf (wordAt ws 0) in
-    let one = command at p (length ws) ws h e (omega arith) some (omega arith) refl size in
+    let one = command at p e (length ws) ws h (omega arith) some (omega arith) refl size in
     let judged : foldl step (going at p []) ws ≡ after at (at + length ws) (judge h p (take (length ws) ws)) =
     one ∙ ap (foldl step (after at (at + length ws) (judge h p (take (length ws) ws)))) (drop-length ws) in
     subst Whole (sym judged ∙ came) (whole-after at (at + length ws) (judge h p (take (length ws) ws)))

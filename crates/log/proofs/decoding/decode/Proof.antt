@@ -9,7 +9,8 @@ use borrow.Author.Needs.{needs}
 use Rattle.batch.specs.declared.Report.{Report}
 use Rattle.batch.specs.declared.Report.the-variants.{Accepted, Short, Refused}
 use Rattle.batch.proofs.Report as report
-use Rattle.log.proofs.Outcomes.{Other, refused, not-accepted, lacks-room, writes, has-room}
+use Rattle.log.proofs.Outcomes.{refused, lacks-buffer, lacks-room, writes, has-room}
+use Rattle.log.proofs.RoomLaws.{Other}
 use Rattle.log.proofs.decoding.decode.Statement.{statement}
 use Rattle.log.proofs.decoding.decode.Tie as tie
 
@@ -40,7 +41,7 @@ returns c =
     let r = c .before in
     let j = r .before .before .before .before in
     let a = j .before .before .before .args in
-    not-accepted (a .lengths) (now (a .words)) (now (a .log)) _ _ (sym (j .judge-batch .ensures) ∙ r .before .before .p .given .1) (r .report-of .ensures)
+    lacks-buffer (a .lengths) (now (a .words)) (now (a .log)) _ _ (sym (j .judge-batch .ensures) ∙ r .before .before .p .given .1) (r .report-of .ensures)
     (other (r .report-of .result) (c .match2 .keys2))
 
 log-length-requires : tie.Need-log-length-requires
