@@ -11,4 +11,5 @@ mod Cases
 mod Exactness
 mod Gathering
 mod Measuring
+mod RowTurn
 mod Turns

@@ -24,23 +24,32 @@ fn walk_within(progress: Progress, base: u32, words: &[u32]) -> Walked
                 return Walked::Stopped(12, place);
             }
             at += 1;
-        } else {
-            let header = headers::read_header(word);
-            let (Header::Known(_, n) | Header::Carried(n)) = header else {
-                return Walked::Stopped(2, place);
-            };
-            if words.len() - at < n {
-                return Walked::Going(p, at);
+            continue;
+        }
+        if p.stage.in_group {
+            let row = rows::judge_row(p, &words[at..]);
+            let used = row.used;
+            if used != 0 {
+                p = row.progress;
+                at += used;
+                continue;
             }
-            let end = at + n;
-            match judging::judge(header, p, &words[at..end]) {
-                Verdict::Next(next) => {
-                    p = next;
-                    at = end;
-                }
-                Verdict::Stop(number, word) => {
-                    return Walked::Stopped(number, place + word);
-                }
+        }
+        let header = headers::read_header(word);
+        let (Header::Known(_, n) | Header::Carried(n)) = header else {
+            return Walked::Stopped(2, place);
+        };
+        if words.len() - at < n {
+            return Walked::Going(p, at);
+        }
+        let end = at + n;
+        match judging::judge(header, p, &words[at..end]) {
+            Verdict::Next(next) => {
+                p = next;
+                at = end;
+            }
+            Verdict::Stop(number, word) => {
+                return Walked::Stopped(number, place + word);
             }
         }
     }

@@ -24,7 +24,7 @@ use Rattle.prediction.proofs.ExtentLaws.{join-exact, exact-same}
 grows : {pitch a b c d : ℕ} → 16 ≤ pitch → a ≤ b → c ≤ d → address pitch a c ≤ address pitch b d
 grows {pitch} {a} {b} {c} {d} wide h k = le-trans (address-column pitch c a b wide h) (address-row pitch b c d wide k)
 
-sample-grows : (s : Surface) (p : Plane) {x x′ y y′ : ℕ} → 16 ≤ s .pitch → x ≤ x′ → y ≤ y′ → sampleByte s p x y ≤ sampleByte s p x′ y′
+pub sample-grows : (s : Surface) (p : Plane) {x x′ y y′ : ℕ} → 16 ≤ s .pitch → x ≤ x′ → y ≤ y′ → sampleByte s p x y ≤ sampleByte s p x′ y′
 sample-grows s luma wide h k = grows wide h k
 sample-grows s cb wide h k = grows wide (omega arith) (omega arith)
 sample-grows s cr wide h k = grows wide (omega arith) (omega arith)

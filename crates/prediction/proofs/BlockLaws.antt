@@ -20,7 +20,7 @@ use Rattle.prediction.proofs.SpanLaws.{inside-within, within-inside}
 use Rattle.prediction.proofs.BlockBytes.{tests, extent-exact}
 
 -- an answer that is inside: the test holds, and the extent is the block's
-answer : (t : Bool) (full e : Extent) → cond t (Inside full) Outside ≡ Inside e → (t ≡ true) × (full ≡ e)
+pub answer : (t : Bool) (full e : Extent) → cond t (Inside full) Outside ≡ Inside e → (t ≡ true) × (full ≡ e)
 answer true full e h = (refl, cc)
 answer false full e h = let z : _≡_ {A = ℕ} 0 1 = cc in absurd (omega arith)
 

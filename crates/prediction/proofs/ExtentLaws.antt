@@ -45,3 +45,20 @@ exact-once {P} {e} {f} p q = ap upTo (le-antisymm (up p q) (up q p))
         by : (b .end < a .end) ⊎ (a .end ≤ b .end) → a .end ≤ b .end
         by (inl l) = let r = h .reached (omega arith) in omega (arith, k .below (r .0) (r .1), r .2)
         by (inr l) = l
+
+-- Joining extents goes in any grouping.
+pub join-assoc : (a b c : Extent) → joined (joined a b) c ≡ joined a (joined b c)
+unfolding joined
+join-assoc a b c =
+    let e : max (max (a .end) (b .end)) (c .end) ≡ max (a .end) (max (b .end) (c .end)) = omega arith in
+    ap upTo e
+
+-- A larger extent is the join of both.
+pub join-larger : (a b : Extent) → a .end ≤ b .end → joined a b ≡ b
+unfolding joined
+join-larger a b h = let e : max (a .end) (b .end) ≡ b .end = omega arith in ap upTo e
+
+-- No byte adds nothing.
+pub join-empty : (a : Extent) → joined a emptyExtent ≡ a
+unfolding joined emptyExtent
+join-empty a = let e : max (a .end) 0 ≡ a .end = omega arith in ap upTo e

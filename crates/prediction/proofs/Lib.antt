@@ -2,6 +2,7 @@
 pub mod TwosComplement
 pub mod ExtentLaws
 pub mod BlockLaws
+pub mod LineLaws
 -- for this crate alone
 mod Integers
 mod Components
@@ -10,4 +11,5 @@ mod ChromaInside
 mod AddressGrows
 mod SpanLaws
 mod BlockBytes
+mod LineCode
 mod Worked

@@ -8,9 +8,12 @@ use Rattle.prediction.specs.Vectors.{vectorOf, wordOf}
 use Rattle.prediction.specs.Ranges.{inRange, vectorInRange}
 use Rattle.prediction.specs.Spans.{firstOf, countOf, halved}
 use Rattle.prediction.specs.Addresses.{address}
-use Rattle.prediction.specs.Extents.{joined}
+use Rattle.prediction.specs.Extents.{emptyExtent, joined}
 use Rattle.prediction.specs.Blocks.{blockAt}
+use Rattle.prediction.specs.Lines.{lineOf, reachOf}
 use Rattle.prediction.specs.declared.Vector.{Vector}
+use Rattle.prediction.specs.declared.Line.{Line}
+use Rattle.prediction.specs.declared.Extent.{Extent}
 use Rattle.prediction.proofs.TwosComplement.{pair as vector}
 use Rattle.prediction.proofs.ExtentLaws.{upTo}
 use Rattle.prediction.specs.declared.Block.{Block}
@@ -76,3 +79,20 @@ p8-to-p12 = refl
 largest : blockAt (record { pitch = 131072; «chroma_row» = 32767 }) (record { columns = 256; rows = 175 }) (record { column = 255; row = 174 }) (vector (pos 0) (pos 0)) ≡ inside 4478210048
 unfolding blockAt joined address
 largest = refl
+
+-- the line of two macroblocks: components from -16 to 15 for codes 0 and 1, -4096 to 4095 for 9, any for 12 and above
+abbrev line : ℕ → ℕ → ℕ → Line
+line low span last = record { low = low; span = span; last = last }
+
+lines : map (lineOf 2) (0 ∷ 1 ∷ 9 ∷ 12 ∷ 255 ∷ []) ≡ line 32752 31 1 ∷ line 32752 31 1 ∷ line 28672 8191 1 ∷ line 0 65535 1 ∷ line 0 65535 1 ∷ []
+unfolding lineOf
+lines = refl
+
+-- the words of P8 to P12: the reach of those inside is their answer, and nothing is reached from before the picture
+abbrev reach : ℕ → Extent
+reach w = reachOf (record { pitch = 128; «chroma_row» = 16 }) (record { column = 0; row = 0 }) w
+
+reaches : map reach (0x00000000 ∷ 0x00000001 ∷ 0x00000002 ∷ 0x00000020 ∷ 0x0000ffff ∷ [])
+    ≡ upTo 2960 ∷ upTo 2960 ∷ upTo 2962 ∷ upTo 2976 ∷ upTo 0 ∷ []
+unfolding reachOf vectorOf joined emptyExtent address
+reaches = refl

@@ -4,3 +4,4 @@ pub mod Spans
 pub mod Addresses
 pub mod Extents
 pub mod Blocks
+pub mod Lines

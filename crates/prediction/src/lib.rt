@@ -3,11 +3,15 @@
 mod addresses;
 mod blocks;
 mod extents;
+mod lines;
 mod ranges;
 mod spans;
 mod vectors;
 
 pub use blocks::block_at;
+pub use lines::line_of;
+pub use lines::reach_of;
+pub use lines::vector_in_lines;
 pub use ranges::vector_in_range;
 pub use vectors::vector_of;
 pub use vectors::word_of;
@@ -45,4 +49,12 @@ pub struct Extent {
 pub enum Block {
     Outside,
     Inside(Extent),
+}
+
+// What vectors may be in one line of blocks, a row or a column of macroblocks: a component plus 32768 from low to low + span,
+// and last the last block's place.
+pub struct Line {
+    pub low: u16,
+    pub span: u16,
+    pub last: u16,
 }

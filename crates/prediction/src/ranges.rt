@@ -7,7 +7,7 @@ ghost use lib.IntN.{subℕ};
 ghost use Rattle.prediction.specs.Ranges.{inRange, vectorInRange};
 
 // The exponent of a code: one less, 0 for code 0.
-fn exponent(code: u8) -> u8
+pub(crate) fn exponent(code: u8) -> u8
     ensures { λ r. ⌜ r ≡ code - 1 ⌝ }
 {
     if code == 0 {

@@ -1,0 +1,5 @@
+-- for this crate alone
+mod Finding
+mod Going
+mod Keeping
+mod Taking

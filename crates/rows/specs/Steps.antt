@@ -1,0 +1,117 @@
+-- What the tests of one MACROBLOCK command find, before its rules are asked (proofs/Steps.antt).
+use Prim.Native.Nat.{ℕ, _+_}
+use mathlib.Core.Bool.{Bool, true, _||_}
+use mathlib.Core.List.{List}
+use mathlib.Core.Logic.{_⊎_}
+use mathlib.Core.Path.{_≡_}
+use lib.Dec.{eqb}
+use Rattle.fields.specs.Word.{bits, withBits}
+use Rattle.prediction.specs.Extents.{joined}
+use Rattle.prediction.specs.Lines.{lineOf, vectorInLines, reachOf}
+use Rattle.prediction.specs.declared.Extent.{Extent}
+use Rattle.prediction.specs.declared.Line.{Line}
+use Rattle.prediction.specs.declared.Position.{Position}
+use Rattle.headers.specs.Headers.{macroblockHeader}
+use Rattle.headers.specs.Words.{wordAt}
+use Rattle.picture.specs.declared.Picture.{Picture}
+use Rattle.progress.specs.declared.Progress.{Progress}
+use Rattle.rows.specs.Words.{lowHalf, FlagsKept, IntraKept, InterKept}
+use Rattle.rows.specs.declared.Lines.{Lines}
+use Rattle.rows.specs.declared.Step.{Step}
+use Rattle.rows.specs.declared.Step.the-variants.{Kept, Left}
+
+-- The lines of a picture's columns and rows under its f codes.
+unfoldable pub linesOf : Picture → Lines
+linesOf p =
+    record {
+      «forward_x» = lineOf (p .grid .columns) (p .forward .x);
+      «forward_y» = lineOf (p .grid .rows) (p .forward .y);
+      «backward_x» = lineOf (p .grid .columns) (p .backward .x);
+      «backward_y» = lineOf (p .grid .rows) (p .backward .y);
+    }
+
+-- A P or B picture.
+abbrev pub isPredicted : ℕ → Bool
+isPredicted coding = eqb coding 2 || eqb coding 3
+
+-- The type of an inter macroblock, skipped or not: word 1 without its upper half and bit 2.
+abbrev pub typeIn : List ℕ → ℕ
+typeIn ws = withBits (lowHalf (wordAt ws 1)) 2 2 0
+
+-- Word 2: "row in 31:16, column in 15:0".
+abbrev pub AtWord : ℕ → ℕ → ℕ → Type 0
+AtWord two column row = (bits two 15 0 ≡ column) × (bits two 31 16 ≡ row)
+
+-- A column of the progress's row, and what a word's vector touches from there.
+abbrev pub placeIn : Progress → ℕ → Position
+placeIn p column = record { column = column; row = p .position .row }
+
+abbrev pub reachIn : Progress → ℕ → ℕ → Extent
+reachIn p column w = reachOf (p .frame .surface) (placeIn p column) w
+
+-- A word's vector keeps its lines.
+abbrev pub ForwardFits : Progress → ℕ → ℕ → Type 0
+ForwardFits p column w =
+    vectorInLines (linesOf (p .picture) .«forward_x») (linesOf (p .picture) .«forward_y») column (p .position .row) w ≡ true
+
+abbrev pub BackwardFits : Progress → ℕ → ℕ → Type 0
+BackwardFits p column w =
+    vectorInLines (linesOf (p .picture) .«backward_x») (linesOf (p .picture) .«backward_y») column (p .position .row) w ≡ true
+
+-- Each kind: its type, the picture's, its vectors, and what is touched of both references after it.
+module _ (p : Progress) (column : ℕ) (forward backward : Extent) (ws : List ℕ) where
+  pub record ForwardFound (f b : Extent) : Type 0 where
+    pub type : typeIn ws ≡ 0x100
+    pub coding : isPredicted (p .picture .coding) ≡ true
+    pub same : wordAt ws 5 ≡ wordAt ws 6
+    pub fits : ForwardFits p column (wordAt ws 5)
+    pub forward-is : f ≡ joined forward (reachIn p column (wordAt ws 5))
+    pub backward-is : b ≡ backward
+
+  pub record BackwardFound (f b : Extent) : Type 0 where
+    pub type : typeIn ws ≡ 0x200
+    pub coding : p .picture .coding ≡ 3
+    pub same : wordAt ws 5 ≡ wordAt ws 6
+    pub fits : BackwardFits p column (wordAt ws 6)
+    pub forward-is : f ≡ forward
+    pub backward-is : b ≡ joined backward (reachIn p column (wordAt ws 6))
+
+  pub record BothFound (f b : Extent) : Type 0 where
+    pub type : typeIn ws ≡ 0x300
+    pub coding : p .picture .coding ≡ 3
+    pub forward-fits : ForwardFits p column (wordAt ws 5)
+    pub backward-fits : BackwardFits p column (wordAt ws 6)
+    pub forward-is : f ≡ joined forward (reachIn p column (wordAt ws 5))
+    pub backward-is : b ≡ joined backward (reachIn p column (wordAt ws 6))
+
+  pub record IntraFound (f b : Extent) : Type 0 where
+    pub type : lowHalf (wordAt ws 1) ≡ 0x3a00
+    pub kept : IntraKept (p .picture .coding) ws
+    pub forward-is : f ≡ forward
+    pub backward-is : b ≡ backward
+
+  abbrev pub ByForward : Step → Type 0
+  ByForward (Kept f b) = typeIn ws ≡ 0x100 → ForwardFound f b
+  ByForward Left = Unit {0}
+
+  abbrev pub ByBackward : Step → Type 0
+  ByBackward (Kept f b) = typeIn ws ≡ 0x200 → BackwardFound f b
+  ByBackward Left = Unit {0}
+
+  abbrev pub ByBoth : Step → Type 0
+  ByBoth (Kept f b) = typeIn ws ≡ 0x300 → BothFound f b
+  ByBoth Left = Unit {0}
+
+  abbrev pub ByInter : List ℕ → Step → Type 0
+  ByInter before (Kept f b) = InterKept (p .picture .coding) before ws × (ForwardFound f b ⊎ (BackwardFound f b ⊎ BothFound f b))
+  ByInter before Left = Unit {0}
+
+  pub record Found (due : ℕ) (before : List ℕ) (f b : Extent) : Type 0 where
+    pub header : wordAt ws 0 ≡ macroblockHeader
+    pub position : AtWord (wordAt ws 2) column (p .position .row)
+    pub flags : FlagsKept (wordAt ws 4) due (eqb (column + 1) (p .picture .grid .columns))
+    pub coded : IntraFound f b ⊎ (InterKept (p .picture .coding) before ws × (ForwardFound f b ⊎ (BackwardFound f b ⊎ BothFound f b)))
+
+  abbrev pub StepFrom : ℕ → List ℕ → Step → Type 0
+  StepFrom due before (Kept f b) = Found due before f b
+  StepFrom due before Left = Unit {0}
