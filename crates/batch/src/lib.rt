@@ -11,6 +11,7 @@ pub use reporting::report_of;
 pub use walking::walk;
 
 // The lengths in bytes of the four picture buffers that a batch is checked with.
+#[repr(C)]
 pub struct Lengths {
     pub source: u64,
     pub reconstructed: u64,

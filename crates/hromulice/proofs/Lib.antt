@@ -1,0 +1,3 @@
+-- for the crates above
+pub mod InParts
+pub mod SummaryLaws

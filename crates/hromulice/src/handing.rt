@@ -1,0 +1,32 @@
+// A batch in parts. Between two calls the state of the check is in memory that the caller lends; any content of it is taken.
+use crate::Summary;
+use crate::summaries;
+use batch::Lengths;
+ghost use mathlib.Core.Path.{_≡_};
+ghost use Rattle.hromulice.specs.Handing.{MemoryBegun, MemoryHanded, summaryIn};
+
+// A check with four buffers of these lengths, before its first word.
+#[no_mangle]
+pub extern "C" fn hromulice_begin(lengths: Lengths, memory: &mut [u64; 99])
+    ensures { λ _. ⌜ MemoryBegun lengths (now (memory .exit)) ⌝ }
+{
+    *memory = memory::state_words(parts::begin(lengths));
+}
+
+// The next part. After a refusal the answer stays.
+#[no_mangle]
+pub extern "C" fn hromulice_hand_over(memory: &mut [u64; 99], part: &[u32])
+    ensures { λ _. ⌜ MemoryHanded (now (memory .entry)) (now (part .entry)) (now (memory .exit)) ⌝ }
+{
+    let state = memory::state_in(memory);
+    *memory = memory::state_words(parts::hand_over(state, part));
+}
+
+// The answer to all words so far, taken as a whole batch.
+#[no_mangle]
+pub extern "C" fn hromulice_report_of(memory: &[u64; 99]) -> Summary
+    ensures { λ r. ⌜ r ≡ summaryIn (now (memory .entry)) ⌝ }
+{
+    let state = memory::state_in(memory);
+    summaries::summary_of(parts::answer(state))
+}

@@ -1,0 +1,4 @@
+-- for the crates above
+pub mod MemoryLaws
+-- for this crate alone
+mod CopyLaws

@@ -1,0 +1,99 @@
+-- A state that is stored in memory and read again.
+use mathlib.Core.Bool.{Bool, true, false, not}
+use mathlib.Core.List.{List, _++_}
+use mathlib.Core.Path.{_≡_, refl, sym, ap, _∙_}
+use Prim.Native.Nat.{ℕ, zero, suc, _+_, _%_, _^_, _<_}
+use native.Mathlib.Nat.{add-zero, mod-eq-of-lt}
+use native.Mathlib.Omega.{arith}
+use lib.Dec.{eqb}
+use lib.ListN.{length, getD, length-map, List·getD-map}
+use lib.Seq.{ext-getD, getD-append-add}
+use Rattle.fields.specs.Bytes.{elements}
+use Rattle.fields.specs.Word.{flag}
+use Rattle.parts.specs.declared.State.{State}
+use Rattle.memory.specs.Memory.{bufferIn, stateIn, progressWords, ownWords, lengthsWords, stateWords}
+
+length-elements : (xs : List ℕ) (i k : ℕ) → length (elements xs i k) ≡ k
+length-elements xs i zero = refl
+length-elements xs i (suc k) = ap suc (length-elements xs (suc i) k)
+
+elements-at : (xs : List ℕ) (i k j : ℕ) → j < k → getD (elements xs i k) j 0 ≡ getD xs (i + j) 0
+elements-at xs i zero j h = absurd (omega arith)
+elements-at xs i (suc k) zero h = ap (λ (n : ℕ). getD xs n 0) (sym (add-zero i))
+elements-at xs i (suc k) (suc j) h =
+    elements-at xs (suc i) k j (omega arith) ∙ ap (λ (n : ℕ). getD xs n 0) (let e : suc i + j ≡ i + suc j = omega arith in e)
+
+pub buffer-length : (m : List ℕ) → length (bufferIn m) ≡ 61
+unfolding bufferIn
+buffer-length m = length-map (elements m 38 61) (λ w. w % 2 ^ 32) ∙ length-elements m 38 61
+
+pub buffer-at : (m : List ℕ) (i : ℕ) → i < 61 → getD (bufferIn m) i 0 ≡ getD m (38 + i) 0 % 2 ^ 32
+unfolding bufferIn
+buffer-at m i h = List·getD-map (λ w. w % 2 ^ 32) (elements m 38 61) i 0 ∙ ap (λ (n : ℕ). n % 2 ^ 32) (elements-at m 38 61 i h)
+
+flag-back : (b : Bool) → not (eqb (flag b) 0) ≡ b
+flag-back true = refl
+flag-back false = refl
+
+-- Numbers of a state that fit their types: the words of it that are cut when they are read.
+pub record Fitting (s : State) : Type 0 where
+  pub width : s .progress .frame .width < 2 ^ 16
+  pub height : s .progress .frame .height < 2 ^ 16
+  pub pitch : s .progress .frame .surface .pitch < 2 ^ 32
+  pub chroma-row : s .progress .frame .surface .«chroma_row» < 2 ^ 16
+  pub coding : s .progress .picture .coding < 2 ^ 8
+  pub forward-x : s .progress .picture .forward .x < 2 ^ 8
+  pub forward-y : s .progress .picture .forward .y < 2 ^ 8
+  pub backward-x : s .progress .picture .backward .x < 2 ^ 8
+  pub backward-y : s .progress .picture .backward .y < 2 ^ 8
+  pub columns : s .progress .picture .grid .columns < 2 ^ 16
+  pub rows : s .progress .picture .grid .rows < 2 ^ 16
+  pub column : s .progress .position .column < 2 ^ 16
+  pub row : s .progress .position .row < 2 ^ 16
+  pub kind : s .progress .previous .kind < 2 ^ 8
+  pub five : s .progress .previous .five < 2 ^ 32
+  pub six : s .progress .previous .six < 2 ^ 32
+  pub seven : s .progress .previous .seven < 2 ^ 32
+  pub eight : s .progress .previous .eight < 2 ^ 32
+  pub at : s .at < 2 ^ 32
+  pub number : s .number < 2 ^ 8
+  pub held-words : length (s .buffer) ≡ 61
+  pub buffer : (i : ℕ) → getD (s .buffer) i 0 < 2 ^ 32
+
+buffer-back : (s : State) → Fitting s → bufferIn (stateWords s) ≡ s .buffer
+unfolding stateWords
+buffer-back s f =
+    ext-getD 0 (bufferIn (stateWords s)) (s .buffer) (buffer-length (stateWords s) ∙ sym (f .held-words))
+    (λ i h. let l = buffer-length (stateWords s) in let k : i < 61 = omega arith in
+    buffer-at (stateWords s) i k
+    ∙ ap (λ (w : ℕ). w % 2 ^ 32) (getD-append-add (progressWords (s .progress) ++ ownWords s ++ lengthsWords (s .lengths)) (s .buffer) i 0)
+    ∙ mod-eq-of-lt (f .buffer i))
+
+-- What is read of a state that was stored is that state.
+pub stored-read : (s : State) → Fitting s → stateIn (stateWords s) ≡ s
+unfolding stateIn stateWords
+stored-read s f =
+    simp (
+      flag-back,
+      mod-eq-of-lt (f .width),
+      mod-eq-of-lt (f .height),
+      mod-eq-of-lt (f .pitch),
+      mod-eq-of-lt (f .chroma-row),
+      mod-eq-of-lt (f .coding),
+      mod-eq-of-lt (f .forward-x),
+      mod-eq-of-lt (f .forward-y),
+      mod-eq-of-lt (f .backward-x),
+      mod-eq-of-lt (f .backward-y),
+      mod-eq-of-lt (f .columns),
+      mod-eq-of-lt (f .rows),
+      mod-eq-of-lt (f .column),
+      mod-eq-of-lt (f .row),
+      mod-eq-of-lt (f .kind),
+      mod-eq-of-lt (f .five),
+      mod-eq-of-lt (f .six),
+      mod-eq-of-lt (f .seven),
+      mod-eq-of-lt (f .eight),
+      mod-eq-of-lt (f .at),
+      mod-eq-of-lt (f .number),
+      buffer-back s f,
+    )

@@ -1,0 +1,130 @@
+/* Hromulice: checks a batch of MPEG-2 commands before the video engine reads it.
+ *
+ * Link libhromulice.a (x86-64 Linux; `rt staticlib hromulice` builds it). It needs nothing but memcpy, keeps no state of its own,
+ * allocates nothing, does no input or output, and may be called from any number of threads. Each function is proved: it returns for
+ * all arguments that keep the rules on pointers below, whatever the words, bytes, counts and lengths are, and it answers what is said
+ * here. Measured and not proved: hromulice_hand_over uses less than 8 KiB of stack, each other function less than 2 KiB.
+ *
+ * A batch is a run of 32-bit words. Beside it come the lengths in bytes of the four picture buffers. An answer is a number, 0 for
+ * accepted, and a place. A refusal writes nothing into the log, the record or the words that were lent.
+ *
+ * Pointers. The compiler cannot check these rules, so the caller keeps them:
+ * - A pointer that comes with a count is to so many elements of one object. Any other pointer is to one whole hromulice_state.
+ * - It is aligned for what it points at, and is not null. With count 0 nothing is read or written through it, and null will do.
+ * - Memory behind a pointer to const is not written by anybody during the call; two such runs may overlap.
+ * - Memory behind another pointer is neither read nor written by anybody else during the call, and overlaps nothing that another
+ *   pointer of the same call is to.
+ */
+#ifndef HROMULICE_H
+#define HROMULICE_H
+
+#include <stddef.h>
+#include <stdint.h>
+
+#ifdef __cplusplus
+extern "C" {
+#endif
+
+/* The numbers of the answers, with what the place is. Places count from 0; of a batch they are words from its start, of one command
+ * words from its header. */
+enum {
+    HROMULICE_ACCEPTED = 0,        /* 0 */
+    HROMULICE_WORDS_RUN_OUT = 1,   /* in a command or before END: the words given */
+    HROMULICE_UNKNOWN_HEADER = 2,  /* the header */
+    HROMULICE_OUT_OF_SEQUENCE = 3, /* the header */
+    HROMULICE_FIXED_BIT = 4,       /* the word */
+    HROMULICE_FIELD = 5,           /* a field's value is not permitted: the word */
+    HROMULICE_POSITION = 6,        /* a macroblock that is not at its position: its word 2 */
+    HROMULICE_FLAG = 7,            /* a slice or group flag: the macroblock's word 4 */
+    HROMULICE_VECTOR_COPY = 8,     /* a missing vector that is not the copy it has to be: the word */
+    HROMULICE_VECTOR_RANGE = 9,    /* a vector beyond its f code: the macroblock's word 5 or 6 */
+    HROMULICE_VECTOR_OUTSIDE = 10, /* a vector that points outside the picture: the macroblock's word 5 or 6 */
+    HROMULICE_SKIP = 11,           /* a macroblock that may not be skipped: its word 1 */
+    HROMULICE_AFTER_END = 12,      /* a word after END that is not zero: that word */
+    HROMULICE_BUFFER_SHORT = 13,   /* the lowest buffer that is too short: 0 source, 1 reconstructed, 2 forward, 3 backward reference */
+    HROMULICE_ROOM_SHORT = 14,     /* the bytes or words that have to be lent */
+    HROMULICE_RECORD = 15,         /* a record that is not legal: its first bad byte */
+    HROMULICE_TOO_MANY_WORDS = 27  /* 4294967295 */
+};
+
+/* Lengths in bytes of the four picture buffers: source, reconstructed picture, forward and backward reference. */
+typedef struct {
+    uint64_t source;
+    uint64_t reconstructed;
+    uint64_t forward;
+    uint64_t backward;
+} hromulice_lengths;
+
+/* The answer to a batch. With numbers 0, 13 and 14 `lengths` is what each buffer must have at least: 0 if the batch touches no byte of
+ * it, otherwise one more than the highest byte that it touches. With every other number all four are 0. */
+typedef struct {
+    uint8_t number;
+    uint64_t place;
+    hromulice_lengths lengths;
+} hromulice_report;
+
+/* The answer to one command or one record. */
+typedef struct {
+    uint8_t number;
+    uint64_t place;
+} hromulice_answer;
+
+/* The state of a check in parts, in memory that the caller lends. What the words mean is the library's own matter. Any content is
+ * taken: words that hromulice_begin or hromulice_hand_over did not leave stand for some state too. It may be copied. */
+#define HROMULICE_STATE_WORDS 99
+typedef struct {
+    uint64_t words[HROMULICE_STATE_WORDS];
+} hromulice_state;
+
+/* Checks `count` words as a whole batch, with four buffers of these lengths. Writes nothing. */
+hromulice_report hromulice_check(const uint32_t *words, size_t count, hromulice_lengths lengths);
+
+/* Checks likewise, and with number 0 writes the log: the 24-byte record of the k-th macroblock at log + 24 * k, k from 0. Bytes beyond
+ * the last record stay as they are, and with any other number all of them do. 14 comes last: the batch has no other fault, and its
+ * place is the bytes that the log needs, 24 for each macroblock of the picture. */
+hromulice_report hromulice_decode(const uint32_t *words, size_t count, hromulice_lengths lengths, uint8_t *log, size_t bytes);
+
+/* Reads one MACROBLOCK command, its nine words from the header on; words after the ninth are not read. With number 0 the first 24
+ * bytes of `record` are its record and the others stay; with any other number all of them do. The numbers are 0, 1, 2, 4, 5, 8, 11 and
+ * 14, with place 24. */
+hromulice_answer hromulice_read_command(const uint32_t *words, size_t count, uint8_t *record, size_t bytes);
+
+/* Writes the command of one record of 24 bytes. With number 0 the first nine words of `words` are the command and the others stay; with
+ * any other number all of them do. The numbers are 0, 14, with place 9, and 15, with place 0 where `bytes` is not 24. */
+hromulice_answer hromulice_write_command(const uint8_t *record, size_t bytes, uint32_t *words, size_t count);
+
+/* A batch in parts: begin, hand over its parts in order, and ask for the report after any of them. The report is what hromulice_check
+ * answers to all words so far, as one batch, with the lengths of hromulice_begin: for every list of parts, empty parts and no part at
+ * all among them, and also after a refusal. */
+
+/* Begins a check. Writes the whole state and reads nothing of it. */
+void hromulice_begin(hromulice_lengths lengths, hromulice_state *state);
+
+/* Takes the next `count` words of the batch. They are not needed after the call. */
+void hromulice_hand_over(hromulice_state *state, const uint32_t *part, size_t count);
+
+/* The report on all words so far. The state stays as it is, so that more parts can follow. */
+hromulice_report hromulice_report_of(const hromulice_state *state);
+
+#ifdef __cplusplus
+}
+#endif
+
+/* The library was compiled for these layouts. */
+#if SIZE_MAX != UINT64_MAX
+#error "hromulice: size_t has 64 bits"
+#endif
+#if defined(__cplusplus) && __cplusplus >= 201103L
+#define HROMULICE_LAYOUT(fact) static_assert(fact, "hromulice: another layout")
+#elif defined(__STDC_VERSION__) && __STDC_VERSION__ >= 201112L
+#define HROMULICE_LAYOUT(fact) _Static_assert(fact, "hromulice: another layout")
+#endif
+#ifdef HROMULICE_LAYOUT
+HROMULICE_LAYOUT(sizeof(hromulice_lengths) == 32);
+HROMULICE_LAYOUT(sizeof(hromulice_report) == 48 && offsetof(hromulice_report, place) == 8 && offsetof(hromulice_report, lengths) == 16);
+HROMULICE_LAYOUT(sizeof(hromulice_answer) == 16 && offsetof(hromulice_answer, place) == 8);
+HROMULICE_LAYOUT(sizeof(hromulice_state) == 8 * HROMULICE_STATE_WORDS);
+#undef HROMULICE_LAYOUT
+#endif
+
+#endif
