@@ -12,9 +12,10 @@ use crate::batch_document::document;
 use crate::batch_faults::faults;
 use crate::batch_rules::rule_table;
 use crate::check::{check, line, Report};
+use crate::command::header;
 use crate::decode_cases;
 use crate::valid_cases::valid;
-use std::collections::HashSet;
+use std::collections::{BTreeSet, HashSet};
 use std::path::Path;
 
 pub struct Case {
@@ -74,40 +75,38 @@ pub fn write(dir: &Path) -> std::io::Result<()> {
     crate::store(dir, bytes.flatten().collect(), lines.collect())
 }
 
+/// The command and the word of it that a place stands in, or none past END.
+pub fn command_at(words: &[u32], place: usize) -> Option<(&'static str, usize)> {
+    let mut at = 0;
+    loop {
+        let (name, count) = header(words[at]).unwrap_or(("unknown", 1));
+        if place < at + count {
+            return Some((name, place - at));
+        }
+        at += count;
+        if name == "END" {
+            return None;
+        }
+    }
+}
+
+/// Numbers 2 to 11 at each word where one can stand.
+pub fn places_due() -> BTreeSet<(u8, &'static str, usize)> {
+    let mut due = BTreeSet::from([(2, "unknown", 0)]);
+    due.extend(["SURFACE", "PICTURE", "SLICEGROUP", "MACROBLOCK", "carried", "END"].map(|name| (3, name, 0)));
+    due.extend([1, 2, 3, 4].map(|word| (4, "SURFACE", word)));
+    due.extend([(4, "PICTURE", 1), (5, "SURFACE", 3), (5, "PICTURE", 2), (5, "PICTURE", 3)]);
+    due.extend([1, 3, 4].map(|word| (4, "MACROBLOCK", word)));
+    due.extend([1, 3, 4].map(|word| (5, "MACROBLOCK", word)));
+    due.extend([(6, 2), (7, 4), (8, 5), (8, 6), (8, 7), (8, 8)].map(|(number, word)| (number, "MACROBLOCK", word)));
+    due.extend([(9, 5), (9, 6), (10, 5), (10, 6), (11, 1)].map(|(number, word)| (number, "MACROBLOCK", word)));
+    due
+}
+
 #[cfg(test)]
 mod tests {
     use super::*;
     use crate::batch_rules::table;
-    use crate::command::header;
-    use std::collections::BTreeSet;
-
-    /// The command and the word of it that a place stands in, or none past END.
-    fn command_at(words: &[u32], place: usize) -> Option<(&'static str, usize)> {
-        let mut at = 0;
-        loop {
-            let (name, count) = header(words[at]).unwrap_or(("unknown", 1));
-            if place < at + count {
-                return Some((name, place - at));
-            }
-            at += count;
-            if name == "END" {
-                return None;
-            }
-        }
-    }
-
-    /// Numbers 2 to 11 at each word where one can stand.
-    fn places_due() -> BTreeSet<(u8, &'static str, usize)> {
-        let mut due = BTreeSet::from([(2, "unknown", 0)]);
-        due.extend(["SURFACE", "PICTURE", "SLICEGROUP", "MACROBLOCK", "carried", "END"].map(|name| (3, name, 0)));
-        due.extend([1, 2, 3, 4].map(|word| (4, "SURFACE", word)));
-        due.extend([(4, "PICTURE", 1), (5, "SURFACE", 3), (5, "PICTURE", 2), (5, "PICTURE", 3)]);
-        due.extend([1, 3, 4].map(|word| (4, "MACROBLOCK", word)));
-        due.extend([1, 3, 4].map(|word| (5, "MACROBLOCK", word)));
-        due.extend([(6, 2), (7, 4), (8, 5), (8, 6), (8, 7), (8, 8)].map(|(number, word)| (number, "MACROBLOCK", word)));
-        due.extend([(9, 5), (9, 6), (10, 5), (10, 6), (11, 1)].map(|(number, word)| (number, "MACROBLOCK", word)));
-        due
-    }
 
     #[test]
     fn every_number_at_every_place() {

@@ -17,7 +17,7 @@ pub fn pick<T: Copy>(r: &mut Random, list: &[T]) -> T {
 }
 
 /// Low or high end of a range, next to it, or anything between.
-fn near_ends(r: &mut Random, low: i64, high: i64) -> i64 {
+pub fn near_ends(r: &mut Random, low: i64, high: i64) -> i64 {
     let between = r.within(low, high);
     pick(r, &[low, high, (low + 1).min(high), (high - 1).max(low), between, between])
 }
@@ -36,10 +36,22 @@ pub fn random_frame(r: &mut Random, sort: u32, columns: u32, rows: u32) -> Frame
     frame
 }
 
-/// The values that a component of a vector may have, at a place in a line of n macroblocks.
-fn span(code: u32, place: u32, n: u32) -> (i64, i64) {
+/// "With f code c a component lies from −16·2^(c−1) to 16·2^(c−1)−1."
+pub fn range(code: u32) -> (i64, i64) {
     let limit = (1..code).fold(16, |limit, _| 2 * limit);
-    ((-limit).max(-32 * i64::from(place)), (limit - 1).min(32 * i64::from(n - 1 - place)))
+    (-limit, limit - 1)
+}
+
+/// The components with which a block stays inside, at a place in a line of n macroblocks.
+pub fn inside(place: u32, n: u32) -> (i64, i64) {
+    (-32 * i64::from(place), 32 * i64::from(n - 1 - place))
+}
+
+/// The values that a component of a vector may have.
+fn span(code: u32, place: u32, n: u32) -> (i64, i64) {
+    let (least, most) = range(code);
+    let (low, high) = inside(place, n);
+    (low.max(least), high.min(most))
 }
 
 /// The spans of x and y for the k-th macroblock's forward (0) or backward (1) vector.
@@ -48,18 +60,18 @@ fn spans(frame: &Frame, k: u32, direction: usize) -> [(i64, i64); 2] {
     [span(codes[0], k % frame.columns, frame.columns), span(codes[1], k / frame.columns, frame.rows)]
 }
 
-fn random_vector(r: &mut Random, frame: &Frame, k: u32, direction: usize) -> u32 {
+pub fn random_vector(r: &mut Random, frame: &Frame, k: u32, direction: usize) -> u32 {
     let [x, y] = spans(frame, k, direction).map(|(low, high)| near_ends(r, low, high));
     word_of(x, y)
 }
 
-fn fits(frame: &Frame, k: u32, direction: usize, vector: u32) -> bool {
+pub fn fits(frame: &Frame, k: u32, direction: usize, vector: u32) -> bool {
     let components = [vector as u16 as i16, (vector >> 16) as u16 as i16];
     spans(frame, k, direction).iter().zip(components).all(|((low, high), v)| (*low..=*high).contains(&v.into()))
 }
 
 /// A skipped macroblock that may follow the one before it.
-fn skipped(frame: &Frame, k: u32, before: &Command) -> Option<Command> {
+pub fn skipped(frame: &Frame, k: u32, before: &Command) -> Option<Command> {
     let (forward, backward) = (before[5], before[6]);
     match (frame.sort, kind(before)?) {
         (2, _) => Some(skip(1, 0, 0)),

@@ -10,7 +10,7 @@ use crate::command::{header, read_alone, Answer};
 use crate::command_cases::{commands, headers};
 use crate::record::write_alone;
 use crate::record_cases::records;
-use std::collections::HashSet;
+use std::collections::{BTreeSet, HashSet};
 use std::path::Path;
 
 pub struct Case {
@@ -112,26 +112,25 @@ pub fn write(dir: &Path) -> std::io::Result<()> {
     crate::store(dir, cases.iter().flat_map(Case::bytes).collect(), lines)
 }
 
+/// Document 01's numbers and places for one command read alone. Word 2 has no rule when it is read alone.
+pub fn read_answers() -> BTreeSet<Answer> {
+    let words_run_out = (0..9).map(|place| (1, place));
+    let copies = (5..9).map(|place| (8, place));
+    let rest = [(0, 0), (2, 0), (4, 1), (4, 3), (4, 4), (5, 1), (5, 3), (5, 4), (11, 1), (14, 24)];
+    words_run_out.chain(copies).chain(rest).collect()
+}
+
+/// The same for one record written alone. Column, row, word 1's upper half and the sizes (0 to 5, 9, 10) are free.
+pub fn write_answers() -> BTreeSet<Answer> {
+    let bad_bytes = [0, 6, 7, 8].into_iter().chain(11..24).map(|place| (15, place));
+    bad_bytes.chain([(0, 0), (14, 9)]).collect()
+}
+
 #[cfg(test)]
 mod tests {
     use super::*;
     use crate::command::COMMANDS;
     use crate::command_cases::P1;
-    use std::collections::BTreeSet;
-
-    /// Document 01's numbers and places for one command read alone. Word 2 has no rule when it is read alone.
-    fn read_answers() -> BTreeSet<Answer> {
-        let words_run_out = (0..9).map(|place| (1, place));
-        let copies = (5..9).map(|place| (8, place));
-        let rest = [(0, 0), (2, 0), (4, 1), (4, 3), (4, 4), (5, 1), (5, 3), (5, 4), (11, 1), (14, 24)];
-        words_run_out.chain(copies).chain(rest).collect()
-    }
-
-    /// The same for one record written alone. Column, row, word 1's upper half and the sizes (0 to 5, 9, 10) are free.
-    fn write_answers() -> BTreeSet<Answer> {
-        let bad_bytes = [0, 6, 7, 8].into_iter().chain(11..24).map(|place| (15, place));
-        bad_bytes.chain([(0, 0), (14, 9)]).collect()
-    }
 
     #[test]
     fn every_number_at_every_place() {

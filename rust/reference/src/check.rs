@@ -86,8 +86,11 @@ impl Before {
     }
 }
 
+/// What the words alone come to, whatever the buffers: the refusal, or the four lengths.
+pub type Judged = Result<[u64; 4], Answer>;
+
 /// Numbers 1 to 12, or the four lengths. "Commands in order; in each 2, then 1, then 3, then words upwards."
-fn walk(words: &[u32]) -> Result<[u64; 4], Answer> {
+fn walk(words: &[u32]) -> Judged {
     let mut before = Before::default();
     let mut at = 0;
     loop {
@@ -114,15 +117,25 @@ fn walk(words: &[u32]) -> Result<[u64; 4], Answer> {
     }
 }
 
-/// The check of a batch of which no word beyond the first so many is judged.
-fn check_up_to(most: usize, words: &[u32], buffers: [u64; 4]) -> Report {
-    let refusal = |(number, place): Answer| Report { number, place: place as u64, lengths: [0; 4] };
-    let judged = &words[..words.len().min(most)];
-    match walk(judged) {
-        Err((number, place)) if number != 1 => refusal((number, place)),
+/// Numbers 1 to 12 and 27 of a batch of which no word beyond the first so many is judged, or the four lengths.
+fn judge_up_to(most: usize, words: &[u32]) -> Judged {
+    match walk(&words[..words.len().min(most)]) {
+        Err((number, place)) if number != 1 => Err((number, place)),
         // "27 stands in place of 1 and comes before 13"
-        _ if words.len() > most => refusal((27, most)),
-        Err(run_out) => refusal(run_out),
+        _ if words.len() > most => Err((27, most)),
+        judged => judged,
+    }
+}
+
+/// No word beyond the first 4294967295 is judged.
+pub fn judge(words: &[u32]) -> Judged {
+    judge_up_to(4_294_967_295, words)
+}
+
+/// The answer to what was judged so, beside buffers of these lengths.
+pub fn beside(judged: Judged, buffers: [u64; 4]) -> Report {
+    match judged {
+        Err((number, place)) => Report { number, place: place as u64, lengths: [0; 4] },
         // "13 comes after the whole batch", at the "lowest such buffer"
         Ok(lengths) => match (0..4).find(|&n| buffers[n] < lengths[n]) {
             Some(lowest) => Report { number: 13, place: lowest as u64, lengths },
@@ -133,7 +146,13 @@ fn check_up_to(most: usize, words: &[u32], buffers: [u64; 4]) -> Report {
 
 /// The answer to a batch of words beside buffers of these lengths.
 pub fn check(words: &[u32], buffers: [u64; 4]) -> Report {
-    check_up_to(4_294_967_295, words, buffers)
+    beside(judge(words), buffers)
+}
+
+/// The same for a list of parts: "the answer after it is the one the checker gives to all their words in order, taken
+/// whole".
+pub fn check_parts(parts: &[&[u32]], buffers: [u64; 4]) -> Report {
+    check(&parts.concat(), buffers)
 }
 
 /// "`accept` and the four lengths, or `refuse`, number and place, and for 13 the lengths too." The same for 14, which
@@ -152,11 +171,24 @@ mod tests {
     use super::*;
     use crate::batch_document::p1;
 
+    /// Wherever the words are parted, empty parts and the empty list included.
+    #[test]
+    fn parts() {
+        let (words, buffers) = (p1(), [2960, 2959, 0, 0]);
+        assert_eq!(check_parts(&[], buffers), check(&[], buffers));
+        assert_eq!(check_parts(&[&[], &[]], buffers), Report { number: 1, place: 0, lengths: [0; 4] });
+        for at in 0..=words.len() {
+            let (first, second) = words.split_at(at);
+            assert_eq!(check_parts(&[first, &[], second], buffers), check(&words, buffers));
+            assert_eq!(check_parts(&[&[], first], buffers), check(first, buffers));
+        }
+    }
+
     /// "More than 4294967295 words, and the first 4294967295 alone give none of 2 to 12", with a limit that can be tried.
     #[test]
     fn too_many_words() {
         let answer = |most: usize, words: &[u32], length: u64| {
-            let report = check_up_to(most, words, [length; 4]);
+            let report = beside(judge_up_to(most, words), [length; 4]);
             assert!(report.number == 13 || report.number == 0 || report.lengths == [0; 4]);
             (report.number, report.place)
         };

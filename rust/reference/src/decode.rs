@@ -40,7 +40,11 @@ fn log(words: &[u32], bytes: usize) -> Vec<u8> {
 /// The answer to a batch of words beside buffers of these lengths, its records put into the lent log. "13 comes after the
 /// whole batch, 14 last", placed at the "bytes [...] needed"; "the four lengths are reported with 0, 13 and 14".
 pub fn decode(words: &[u32], buffers: [u64; 4], lent: &mut [u8]) -> Report {
-    let report = check(words, buffers);
+    decode_checked(check(words, buffers), words, lent)
+}
+
+/// The same for a batch of which the check's answer is known.
+pub fn decode_checked(report: Report, words: &[u32], lent: &mut [u8]) -> Report {
     if report.number != 0 {
         return report;
     }

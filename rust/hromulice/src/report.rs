@@ -1,0 +1,215 @@
+//! What is answered to a batch.
+
+use crate::ffi;
+use crate::reason::{Reason, Refusal};
+use core::fmt;
+
+/// Lengths in bytes of the four picture buffers: those that a batch is checked beside, or those that it needs.
+///
+/// ```
+/// use hromulice::Lengths;
+///
+/// let lengths = Lengths { source: 2960, reconstructed: 2960, ..Lengths::NONE };
+/// assert_eq!(lengths, Lengths::from([2960, 2960, 0, 0]));
+/// ```
+#[derive(Clone, Copy, Debug, PartialEq, Eq, Hash)]
+pub struct Lengths {
+    /// Buffer 0, the picture to be coded.
+    pub source: u64,
+    /// Buffer 1, the picture as a decoder will see it.
+    pub reconstructed: u64,
+    /// Buffer 2, the forward reference.
+    pub forward: u64,
+    /// Buffer 3, the backward reference.
+    pub backward: u64,
+}
+
+impl Lengths {
+    /// No byte in any buffer.
+    pub const NONE: Lengths = Lengths { source: 0, reconstructed: 0, forward: 0, backward: 0 };
+
+    /// So long that no batch is refused for them: to learn what a batch needs before any memory is taken.
+    ///
+    /// ```
+    /// use hromulice::{check, example, Lengths, Report};
+    ///
+    /// let Report::Accepted(needed) = check(&example::ONE_MACROBLOCK, Lengths::LONGEST) else { panic!() };
+    /// assert_eq!(needed, Lengths::from([2960, 2960, 0, 0]));
+    /// ```
+    pub const LONGEST: Lengths = Lengths { source: u64::MAX, reconstructed: u64::MAX, forward: u64::MAX, backward: u64::MAX };
+
+    /// The length of one buffer.
+    pub const fn of(&self, buffer: Buffer) -> u64 {
+        match buffer {
+            Buffer::Source => self.source,
+            Buffer::Reconstructed => self.reconstructed,
+            Buffer::Forward => self.forward,
+            Buffer::Backward => self.backward,
+        }
+    }
+}
+
+impl From<[u64; 4]> for Lengths {
+    fn from([source, reconstructed, forward, backward]: [u64; 4]) -> Lengths {
+        Lengths { source, reconstructed, forward, backward }
+    }
+}
+
+impl From<Lengths> for [u64; 4] {
+    fn from(Lengths { source, reconstructed, forward, backward }: Lengths) -> [u64; 4] {
+        [source, reconstructed, forward, backward]
+    }
+}
+
+impl From<Lengths> for ffi::Lengths {
+    fn from(Lengths { source, reconstructed, forward, backward }: Lengths) -> ffi::Lengths {
+        ffi::Lengths { source, reconstructed, forward, backward }
+    }
+}
+
+impl From<ffi::Lengths> for Lengths {
+    fn from(ffi::Lengths { source, reconstructed, forward, backward }: ffi::Lengths) -> Lengths {
+        Lengths { source, reconstructed, forward, backward }
+    }
+}
+
+impl fmt::Display for Lengths {
+    fn fmt(&self, f: &mut fmt::Formatter<'_>) -> fmt::Result {
+        let Lengths { source, reconstructed, forward, backward } = self;
+        write!(f, "source {source}, reconstructed {reconstructed}, forward {forward}, backward {backward} bytes")
+    }
+}
+
+/// One of the four picture buffers.
+#[derive(Clone, Copy, Debug, PartialEq, Eq, PartialOrd, Ord, Hash)]
+pub enum Buffer {
+    /// 0, the picture to be coded.
+    Source = 0,
+    /// 1, the picture as a decoder will see it.
+    Reconstructed = 1,
+    /// 2, the forward reference.
+    Forward = 2,
+    /// 3, the backward reference.
+    Backward = 3,
+}
+
+impl Buffer {
+    /// All four, by number.
+    pub const ALL: [Buffer; 4] = [Buffer::Source, Buffer::Reconstructed, Buffer::Forward, Buffer::Backward];
+
+    /// Document 01's number of the buffer.
+    pub const fn number(self) -> u8 {
+        self as u8
+    }
+}
+
+impl fmt::Display for Buffer {
+    fn fmt(&self, f: &mut fmt::Formatter<'_>) -> fmt::Result {
+        f.write_str(["source", "reconstructed", "forward reference", "backward reference"][*self as usize])
+    }
+}
+
+/// The answer to a batch.
+///
+/// ```
+/// use hromulice::{check, example, Buffer, Lengths, Report};
+///
+/// let batch = example::ONE_MACROBLOCK;
+/// let report = check(&batch, Lengths { reconstructed: 2959, ..Lengths::LONGEST });
+/// match report {
+///     Report::Accepted(needed) => println!("to the engine; it touches {needed}"),
+///     Report::ShortBuffer { buffer, needed } => {
+///         assert_eq!((buffer, needed.of(buffer)), (Buffer::Reconstructed, 2960));
+///     }
+///     Report::ShortLog { .. } => unreachable!("the check lends no log"),
+///     Report::Refused(refusal) => println!("not to the engine: {refusal}"),
+/// }
+/// assert_eq!((report.number(), report.place()), (13, 1));
+/// ```
+#[derive(Clone, Copy, Debug, PartialEq, Eq, Hash)]
+pub enum Report {
+    /// Every rule is kept. The lengths are exactly those that the batch needs: for each buffer one more than the highest
+    /// byte that is read or written, zero if none is.
+    Accepted(Lengths),
+    /// 13: all else is right, but a buffer is too short.
+    ShortBuffer {
+        /// The lowest buffer that is too short.
+        buffer: Buffer,
+        /// The lengths that the batch needs.
+        needed: Lengths,
+    },
+    /// 14, of [`decode`](crate::decode) alone: all else is right, but the lent log is too short.
+    ShortLog {
+        /// The bytes that the log needs, 24 for each macroblock of the picture.
+        bytes: u64,
+        /// The lengths that the batch needs.
+        needed: Lengths,
+    },
+    /// 1 to 12 and 27: the first fault.
+    Refused(Refusal),
+}
+
+impl Report {
+    /// Whether the batch passes.
+    pub const fn is_accepted(&self) -> bool {
+        matches!(self, Report::Accepted(_))
+    }
+
+    /// Why and where the batch is refused, in one form for all numbers.
+    pub fn refusal(&self) -> Option<Refusal> {
+        match *self {
+            Report::Accepted(_) => None,
+            Report::ShortBuffer { buffer, .. } => Some(Refusal { reason: Reason::BufferTooShort, place: buffer.number().into() }),
+            Report::ShortLog { bytes, .. } => Some(Refusal { reason: Reason::RoomTooSmall, place: bytes }),
+            Report::Refused(refusal) => Some(refusal),
+        }
+    }
+
+    /// Document 01's number: 0 if accepted.
+    pub fn number(&self) -> u8 {
+        self.refusal().map_or(0, |refusal| refusal.reason.number())
+    }
+
+    /// Document 01's place: 0 if accepted.
+    pub fn place(&self) -> u64 {
+        self.refusal().map_or(0, |refusal| refusal.place)
+    }
+
+    /// The lengths that the batch needs, which are reported with 0, 13 and 14. They do not depend on the lengths that the
+    /// batch was checked beside.
+    pub const fn needed(&self) -> Option<Lengths> {
+        match *self {
+            Report::Accepted(needed) | Report::ShortBuffer { needed, .. } | Report::ShortLog { needed, .. } => Some(needed),
+            Report::Refused(_) => None,
+        }
+    }
+}
+
+impl fmt::Display for Report {
+    fn fmt(&self, f: &mut fmt::Formatter<'_>) -> fmt::Result {
+        match (self.refusal(), self.needed()) {
+            (None, Some(needed)) => write!(f, "accepted; needed: {needed}"),
+            (Some(refusal), Some(needed)) => write!(f, "{refusal}; needed: {needed}"),
+            (Some(refusal), None) => write!(f, "{refusal}"),
+            (None, None) => Ok(()),
+        }
+    }
+}
+
+/// A number that is not 0, with its place. The archive is proved to answer with document 01's numbers alone.
+pub(crate) fn refusal_of(number: u8, place: u64) -> Refusal {
+    let reason = Reason::from_number(number).expect("a number of document 01");
+    Refusal { reason, place }
+}
+
+impl From<ffi::Report> for Report {
+    fn from(ffi::Report { number, place, lengths }: ffi::Report) -> Report {
+        let needed = lengths.into();
+        match number {
+            0 => Report::Accepted(needed),
+            13 => Report::ShortBuffer { buffer: Buffer::ALL[place as usize], needed },
+            14 => Report::ShortLog { bytes: place, needed },
+            _ => Report::Refused(refusal_of(number, place)),
+        }
+    }
+}

@@ -1,0 +1,44 @@
+//! Numbers, their reasons, and how answers are shown.
+
+use hromulice::{Buffer, Lengths, Reason, Refusal, Report};
+use std::collections::BTreeSet;
+
+#[test]
+fn numbers() {
+    let numbers: Vec<u8> = Reason::ALL.iter().map(|reason| reason.number()).collect();
+    assert!(numbers.iter().copied().eq((1..=15).chain([27])));
+    for number in 0..=255 {
+        assert_eq!(Reason::from_number(number).map(Reason::number), Some(number).filter(|number| numbers.contains(number)));
+    }
+    let meanings: BTreeSet<&str> = Reason::ALL.iter().map(|reason| reason.meaning()).collect();
+    assert_eq!(meanings.len(), Reason::ALL.len());
+    assert!(Reason::ALL.iter().all(|reason| reason.to_string() == reason.meaning()));
+}
+
+#[test]
+fn buffers() {
+    let lengths = Lengths::from([10, 11, 12, 13]);
+    for (number, buffer) in (0..).zip(Buffer::ALL) {
+        assert_eq!(buffer.number(), number);
+        assert_eq!(lengths.of(buffer), 10 + u64::from(number));
+    }
+    assert_eq!(<[u64; 4]>::from(lengths), [10, 11, 12, 13]);
+}
+
+#[test]
+fn shown() {
+    let needed = Lengths::from([10, 11, 12, 13]);
+    let bytes = "source 10, reconstructed 11, forward 12, backward 13 bytes";
+    assert_eq!(Report::Accepted(needed).to_string(), format!("accepted; needed: {bytes}"));
+    let short = Report::ShortBuffer { buffer: Buffer::Forward, needed };
+    assert_eq!(short.to_string(), format!("refused 13, buffer 2: a picture buffer is too short; needed: {bytes}"));
+    let log = Report::ShortLog { bytes: 48, needed };
+    assert_eq!(log.to_string(), format!("refused 14, 48 needed: the lent room is too small; needed: {bytes}"));
+    let refusal = |reason, place| Refusal { reason, place };
+    let refused = Report::Refused(refusal(Reason::WrongPosition, 29));
+    assert_eq!(refused.to_string(), "refused 6 at word 29: a macroblock is not at its position");
+    let run_out = refusal(Reason::WordsRunOut, 36).to_string();
+    assert_eq!(run_out, "refused 1 after 36 words: the words run out in a command or before END");
+    let error: &dyn std::error::Error = &refusal(Reason::RecordNotLegal, 7);
+    assert_eq!(error.to_string(), "refused 15 at byte 7: a record is not legal");
+}

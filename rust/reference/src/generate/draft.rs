@@ -1,0 +1,142 @@
+//! A batch that is being put together, and where in it a command or a macroblock can be found.
+
+use crate::batch::{Batch, Frame};
+use crate::batch_valid::{near_ends, once_in, pick, random_batch, random_frame};
+use crate::command::{header, Command, LAST_IN_GROUP};
+use crate::random::Random;
+
+/// The picture that the state commands describe, the commands, and the buffers' lengths beside them.
+#[derive(Clone)]
+pub struct Draft {
+    pub frame: Frame,
+    pub batch: Batch,
+    pub buffers: [u64; 4],
+}
+
+/// How far a batch has come before one of its commands.
+#[derive(Clone, Copy, Default)]
+pub struct Progress {
+    pub surface: bool,
+    pub picture: bool,
+    /// Whether a SLICEGROUP has come, and whether its group is open.
+    pub grouped: bool,
+    pub open: bool,
+    /// Whether W×H macroblocks have come.
+    pub complete: bool,
+    pub ended: bool,
+}
+
+/// A MACROBLOCK command of a batch, the k-th, and the one before it.
+#[derive(Clone, Copy)]
+pub struct At {
+    pub command: usize,
+    pub k: u32,
+    pub c: Command,
+    pub before: Option<(usize, Command)>,
+}
+
+/// W and H: mostly a few macroblocks, now and then some dozens or a long line, rarely anything up to the largest picture.
+fn shape(r: &mut Random) -> (u32, u32) {
+    let mut near = |columns: i64, rows: i64| (near_ends(r, 1, columns) as u32, near_ends(r, 1, rows) as u32);
+    let rare = near(256, 175);
+    let some = near(16, 9);
+    let few = near(5, 3);
+    match r.within(0, 9999) {
+        0..=2 => rare,
+        3..=52 => (rare.0, 1),
+        53..=102 => (1, rare.1),
+        103..=700 => some,
+        701..=6000 => few,
+        _ => (r.within(1, 3) as u32, r.within(1, 2) as u32),
+    }
+}
+
+impl Draft {
+    /// Keeps every rule, the buffers as long as any can be.
+    pub fn new(r: &mut Random) -> Draft {
+        let (columns, rows) = shape(r);
+        Draft::of_shape(r, columns, rows)
+    }
+
+    pub fn of_shape(r: &mut Random, columns: u32, rows: u32) -> Draft {
+        let sort = pick(r, &[1, 2, 2, 3, 3, 3]);
+        let frame = random_frame(r, sort, columns, rows);
+        let noops = if once_in(r, 3) { r.within(1, 6) as usize } else { 0 };
+        let carried = if once_in(r, 5) { r.within(1, 7) as usize } else { 0 };
+        let mut batch = random_batch(r, &frame, noops, carried);
+        if once_in(r, 6) {
+            batch.0.push(vec![0; r.within(1, 5) as usize]);
+        }
+        Draft { frame, batch, buffers: [u64::MAX; 4] }
+    }
+
+    /// The whole commands of this name.
+    pub fn named(&self, name: &str) -> Vec<usize> {
+        let whole = |words: &Vec<u32>| {
+            let found = words.first().and_then(|word| header(*word));
+            found.is_some_and(|(other, count)| other == name && count == words.len())
+        };
+        (0..self.batch.0.len()).filter(|command| whole(&self.batch.0[*command])).collect()
+    }
+
+    pub fn any(&self, r: &mut Random, name: &str) -> Option<usize> {
+        let all = self.named(name);
+        (!all.is_empty()).then(|| pick(r, &all))
+    }
+
+    /// The first W×H macroblocks.
+    pub fn macroblocks(&self) -> Vec<At> {
+        let mut all: Vec<At> = Vec::new();
+        for command in self.named("MACROBLOCK").into_iter().take(self.frame.macroblocks()) {
+            let c = self.batch.0[command][..].try_into().unwrap();
+            let before = all.last().map(|at| (at.command, at.c));
+            all.push(At { command, k: all.len() as u32, c, before });
+        }
+        all
+    }
+
+    /// How far the batch has come before each command and at its end.
+    fn progress(&self) -> Vec<Progress> {
+        let mut now = Progress::default();
+        let mut all = vec![now];
+        let mut seen = 0;
+        for words in &self.batch.0 {
+            match words.first().and_then(|word| header(*word)).map_or("", |(name, _)| name) {
+                "SURFACE" => now.surface = true,
+                "PICTURE" => now.picture = true,
+                "SLICEGROUP" => (now.grouped, now.open) = (true, true),
+                "END" => now.ended = true,
+                "MACROBLOCK" => {
+                    seen += 1;
+                    now.complete = seen >= self.frame.macroblocks();
+                    now.open &= !words[..].try_into().is_ok_and(|c: &Command| LAST_IN_GROUP.of(c) == 1);
+                }
+                _ => {}
+            }
+            all.push(now);
+        }
+        all
+    }
+
+    /// The commands, END among them, before which the batch has come so far.
+    pub fn gaps(&self, so_far: fn(&Progress) -> bool) -> Vec<usize> {
+        let all = self.progress();
+        let found = |command: &usize| {
+            let before = &all[*command];
+            !self.batch.0[*command].is_empty() && !before.ended && so_far(before)
+        };
+        (0..self.batch.0.len()).filter(found).collect()
+    }
+
+    pub fn any_gap(&self, r: &mut Random, so_far: fn(&Progress) -> bool) -> Option<usize> {
+        let all = self.gaps(so_far);
+        (!all.is_empty()).then(|| pick(r, &all))
+    }
+
+    /// The last macroblock leaves its group open.
+    pub fn leave_open(&mut self) -> Option<()> {
+        let last = *self.named("MACROBLOCK").last()?;
+        self.batch = self.batch.set(last, LAST_IN_GROUP, 0);
+        Some(())
+    }
+}

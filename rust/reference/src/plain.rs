@@ -1,0 +1,499 @@
+//! A fast plain checker of a whole batch, as the author of a driver might write it: one pass, formulas in place of samples,
+//! nothing allocated. It is what the proved check is timed against, and is held against the plainest reading (`check`) by
+//! the tests below.
+//!
+//! A macroblock's kind and skip bit are taken apart at once, and each sort then has few tests, which end at the first one
+//! that fails (`keeps`). Only of a macroblock that breaks a rule is it asked which (`fault`).
+
+/// Number, place and the four lengths, zeros where none are reported.
+pub type Answer = (u8, u64, [u64; 4]);
+
+/// A number and the word where it stands.
+type Fault = (u8, usize);
+
+const NOOP: u32 = 0x0000_0000;
+const END: u32 = 0x0500_0000;
+const SURFACE: u32 = 0x7001_0004;
+const PICTURE: u32 = 0x7300_000b;
+const SLICEGROUP: u32 = 0x7343_0006;
+const MACROBLOCK: u32 = 0x7349_0007;
+
+const I: u32 = 1;
+const P: u32 = 2;
+const B: u32 = 3;
+
+/// Words of the command that a header begins, 0 for none.
+fn count(header: u32) -> usize {
+    match header {
+        NOOP | END => 1,
+        SURFACE => 6,
+        PICTURE => 13,
+        SLICEGROUP => 8,
+        MACROBLOCK => 9,
+        0x7000_0003 => 5,
+        0x7002_003b => 61,
+        0x7003_0018 => 26,
+        0x7004_0008 => 10,
+        0x7007_0010 => 18,
+        0x7008_0020 => 34,
+        _ => 0,
+    }
+}
+
+/// The four lengths, or the first of 2 to 12, or 1.
+fn walk(words: &[u32]) -> Result<[u64; 4], Fault> {
+    let mut check = Check::default();
+    let mut at = 0;
+    while at < words.len() {
+        let header = words[at];
+        let count = count(header);
+        if count == 0 {
+            return Err((2, at));
+        }
+        let Some(c) = words.get(at..at + count) else { break };
+        match header {
+            MACROBLOCK => {
+                at = check.macroblocks(words, at)?;
+                continue;
+            }
+            NOOP => {}
+            END if check.pictured && check.row == check.rows && !check.in_group => {
+                return match words[at + 1..].iter().position(|word| *word != 0) {
+                    Some(further) => Err((12, at + 1 + further)),
+                    None => Ok(check.lengths()),
+                };
+            }
+            SURFACE if !check.surfaced => check.surface(c).map_err(|(number, word)| (number, at + word))?,
+            PICTURE if check.surfaced && !check.pictured => check.picture(c).map_err(|(number, word)| (number, at + word))?,
+            SLICEGROUP if check.pictured && check.row < check.rows && !check.in_group => check.group(),
+            SURFACE | PICTURE | SLICEGROUP | END => return Err((3, at)),
+            _carried if check.grouped => return Err((3, at)),
+            _carried => {}
+        }
+        at += count;
+    }
+    Err((1, words.len()))
+}
+
+/// How far a batch has come.
+#[derive(Default)]
+struct Check {
+    surfaced: bool,
+    pictured: bool,
+    grouped: bool,
+    in_group: bool,
+    /// From SURFACE.
+    width: u32,
+    height: u32,
+    pitch: u32,
+    chroma_row: u32,
+    /// From PICTURE: type, W, H, and the f codes' limits: a component lies from −limit to limit−1.
+    coding: u32,
+    columns: u32,
+    rows: u32,
+    limits: [[i32; 2]; 2],
+    /// Where the next macroblock stands.
+    column: u32,
+    row: u32,
+    /// What a vector's y may be in this row: from the first of these numbers, and how many numbers.
+    spans: [[i32; 2]; 2],
+    /// Bits 30 and 24 of word 4 as they must be in the next macroblock: no slice is open, a group begins.
+    first: u32,
+    /// The macroblock before: kind (0 for none, too) and words 5 and 6, from which 7 and 8 follow.
+    before: [u32; 3],
+    /// Row and column of the last chroma sample of any block in each reference, 0 for none.
+    last: [[i32; 2]; 2],
+}
+
+const FIRST_IN_SLICE: u32 = 1 << 30;
+const FIRST_IN_GROUP: u32 = 1 << 24;
+
+impl Check {
+    fn surface(&mut self, c: &[u32]) -> Result<(), Fault> {
+        let ok = |kept: bool, number: u8, word: usize| if kept { Ok(()) } else { Err((number, word)) };
+        ok(c[1] == 0, 4, 1)?;
+        ok(c[2] & 0xf == 0, 4, 2)?;
+        ok(c[3] & 0xfff0_0007 == 0x4800_0003, 4, 3)?;
+        self.pitch = (c[3] >> 3 & 0x1_ffff) + 1;
+        ok(self.pitch.is_multiple_of(128), 5, 3)?;
+        ok(c[4] & 0xffff_8000 == 0, 4, 4)?;
+        self.height = (c[2] >> 18) + 1;
+        self.width = (c[2] >> 4 & 0x3fff) + 1;
+        self.chroma_row = c[4];
+        self.surfaced = true;
+        Ok(())
+    }
+
+    fn picture(&mut self, c: &[u32]) -> Result<(), Fault> {
+        if c[1] & 0x363f != 0x3400 {
+            return Err((4, 1));
+        }
+        let codes = [16, 20, 24, 28].map(|low| c[1] >> low & 15);
+        let used = codes.map(|code| (1..=9).contains(&code));
+        let unused = codes.map(|code| code == 15);
+        self.coding = c[2] >> 9 & 3;
+        let fit = match self.coding {
+            I => unused == [true; 4],
+            P => used[..2] == [true; 2] && unused[2..] == [true; 2],
+            B => used == [true; 4],
+            _ => false,
+        };
+        if !fit {
+            return Err((5, 2));
+        }
+        (self.columns, self.rows) = ((c[3] & 0xff) + 1, (c[3] >> 16 & 0xff) + 1);
+        let (right, bottom) = (16 * self.columns, 16 * self.rows);
+        let wide = right - 16 < self.width && self.width <= right && self.pitch >= right;
+        let high = bottom - 16 < self.height && self.height <= bottom && self.chroma_row >= bottom;
+        if self.rows > 175 || !wide || !high {
+            return Err((5, 3));
+        }
+        let limit = |code: u32| 8 << code;
+        self.limits = [[limit(codes[0]), limit(codes[1])], [limit(codes[2]), limit(codes[3])]];
+        self.first = FIRST_IN_SLICE;
+        self.pictured = true;
+        self.begin_row();
+        Ok(())
+    }
+
+    fn group(&mut self) {
+        (self.grouped, self.in_group) = (true, true);
+        self.first |= FIRST_IN_GROUP;
+    }
+
+    /// The macroblocks from a word on that follow each other. Answers the word behind them.
+    fn macroblocks(&mut self, words: &[u32], at: usize) -> Result<usize, Fault> {
+        match self.coding {
+            I => self.run::<I>(words, at),
+            P => self.run::<P>(words, at),
+            _ => self.run::<B>(words, at),
+        }
+    }
+
+    #[inline(never)]
+    fn run<const CODING: u32>(&mut self, words: &[u32], mut at: usize) -> Result<usize, Fault> {
+        for c in words[at..].as_chunks::<9>().0 {
+            if c[0] != MACROBLOCK {
+                break;
+            }
+            if !self.in_group || self.row >= self.rows {
+                return Err((3, at));
+            }
+            if !self.keeps::<CODING>(c) {
+                let (number, word) = self.fault(c);
+                return Err((number, at + word));
+            }
+            self.take::<CODING>(c);
+            at += 9;
+        }
+        Ok(at)
+    }
+
+    /// Whether a macroblock keeps every rule. Words 5 and 6 alone are compared with those before: 7 and 8 follow from them.
+    #[inline(always)]
+    fn keeps<const CODING: u32>(&self, c: &[u32; 9]) -> bool {
+        let [_, one, two, three, four, five, six, seven, eight] = *c;
+        let inter = |kind: u32| {
+            let forward = kind & 1 == 0 || self.inside(0, five);
+            let backward = kind & 2 == 0 || self.inside(1, six);
+            let copies = five ^ seven | six ^ eight | if kind == 3 { 0 } else { five ^ six };
+            three & 0xf03f | copies == 0 && forward && backward
+        };
+        let coded = match one & 0xffff {
+            0x3a00 => three & 0xffff == 0xfc0 && five | six | seven | eight == 0,
+            0x100 if CODING != I => inter(1),
+            0x200 if CODING == B => inter(2),
+            0x300 if CODING == B => inter(3),
+            0x104 if CODING == P => three & 0xffff | four & 3 << 30 | five | six | seven | eight == 0,
+            0x104 | 0x204 | 0x304 if CODING == B => {
+                let kind = one >> 8 & 3;
+                three & 0xffff | four & 3 << 30 == 0 && self.before == [kind, five, six] && inter(kind)
+            }
+            _ => false,
+        };
+        let fixed = if CODING == I { 0x73ff_ffe0 } else { 0x71ff_ffe0 };
+        let last_due = self.column + 1 == self.columns || four & 1 << 26 != 0;
+        coded
+            && two == self.row << 16 | self.column
+            && (four ^ self.first) & fixed == 0
+            && four & 31 != 0
+            && (!last_due || four >> 31 == 1)
+    }
+
+    /// The values that a component may have by its f code and by its place in a line of n macroblocks. A block of 16 samples,
+    /// 17 for an odd component v, lies within the line exactly if 0 ≤ 32·place + v ≤ 32(n−1).
+    fn span(limit: i32, place: u32, n: u32) -> [i32; 2] {
+        let low = (-limit).max(-32 * place as i32);
+        let high = (limit - 1).min(32 * (n - 1 - place) as i32);
+        [low, high - low + 1]
+    }
+
+    /// At the beginning of a row.
+    fn begin_row(&mut self) {
+        if self.row < self.rows {
+            self.spans = self.limits.map(|[_, y]| Self::span(y, self.row, self.rows));
+        }
+    }
+
+    /// Whether a vector is within its f code and points inside the picture.
+    #[inline(always)]
+    fn inside(&self, direction: usize, vector: u32) -> bool {
+        let [x, y] = components(vector);
+        let (limit, [low, count]) = (self.limits[direction][0], self.spans[direction]);
+        ((y - low) as u32) < count as u32
+            && ((x + limit) as u32) < 2 * limit as u32
+            && (x + 32 * self.column as i32) as u32 <= 32 * (self.columns - 1)
+    }
+
+    /// The last chroma sample of a block: its row and its column. With h the component v halved towards zero the block
+    /// starts at 8·place + floor(h/2) and has 8 samples, 9 if h is odd: the last is 8·place + 7 + ceil(h/2).
+    #[inline(always)]
+    fn reach(&mut self, direction: usize, vector: u32) {
+        let along = |v: i32, place: u32| 8 * place as i32 + 7 + ((v + (v < 0) as i32 + 2) >> 2);
+        let [x, y] = components(vector);
+        let row = along(y, self.row);
+        if row >= self.last[direction][0] {
+            let column = along(x, self.column);
+            self.last[direction] = self.last[direction].max([row, column]);
+        }
+    }
+
+    /// A macroblock that keeps every rule.
+    #[inline(always)]
+    fn take<const CODING: u32>(&mut self, c: &[u32; 9]) {
+        let kind = kind(c);
+        if CODING != I && kind & 1 != 0 {
+            self.reach(0, c[5]);
+        }
+        if CODING == B {
+            if kind & 2 != 0 {
+                self.reach(1, c[6]);
+            }
+            self.before = [kind, c[5], c[6]];
+        }
+        self.first = c[4] >> 1 & FIRST_IN_SLICE;
+        self.in_group = c[4] & 1 << 26 == 0;
+        self.column += 1;
+        if self.column == self.columns {
+            (self.column, self.row) = (0, self.row + 1);
+            self.begin_row();
+        }
+    }
+
+    /// The first rule that a macroblock breaks: words upwards, in a word the smaller number first.
+    #[cold]
+    fn fault(&self, c: &[u32; 9]) -> Fault {
+        let rules = self.first_rules(c).into_iter().chain(self.vector_rules(c));
+        let broken = rules.into_iter().find(|rule| !rule.2).expect("a rule that is broken");
+        (broken.0, broken.1)
+    }
+
+    /// Words 1 to 4: number, word, and whether the rule is kept.
+    fn first_rules(&self, c: &[u32; 9]) -> [(u8, usize, bool); 9] {
+        let kind = kind(c);
+        let skip = c[1] & 4 != 0;
+        let pattern = c[3] >> 6 & 63;
+        let named = if c[1] & 0x2000 != 0 { c[1] & 0x1f04 == 0x1a00 } else { (1..=3).contains(&(c[1] >> 8 & 31)) };
+        let permitted = match self.coding {
+            I => kind == 0,
+            P => kind < 2,
+            _ => true,
+        };
+        let repeated = match self.coding {
+            P => c[5..] == [0; 4],
+            B => kind != 0 && self.before == [kind, c[5], c[6]] && c[5..] == due(kind, c),
+            _ => true,
+        };
+        let last = c[4] >> 31 == 1;
+        let flags = c[4] & (FIRST_IN_SLICE | FIRST_IN_GROUP) == self.first
+            && (last || self.column + 1 != self.columns)
+            && (last || c[4] & 1 << 26 == 0);
+        [
+            (4, 1, c[1] & 0xc0fb == 0),
+            (5, 1, named && permitted),
+            (11, 1, !skip || (c[4] & 3 << 30 == 0 && pattern == 0 && repeated)),
+            (6, 2, c[2] == self.row << 16 | self.column),
+            (4, 3, c[3] & 0xf03f == 0),
+            (5, 3, kind != 0 || pattern == 63),
+            (4, 4, c[4] & 0x30ff_ffe0 == 0),
+            (5, 4, c[4] & 31 != 0 && (self.coding != I || c[4] & 1 << 25 == 0)),
+            (7, 4, flags),
+        ]
+    }
+
+    /// Words 5 to 8, in the same way.
+    fn vector_rules(&self, c: &[u32; 9]) -> [(u8, usize, bool); 8] {
+        let kind = kind(c);
+        let [five, six, seven, eight] = due(kind, c);
+        let in_range = |direction: usize, vector: u32| {
+            let ([x, y], [limit_x, limit_y]) = (components(vector), self.limits[direction]);
+            (-limit_x..limit_x).contains(&x) && (-limit_y..limit_y).contains(&y)
+        };
+        let (no_forward, no_backward) = (kind & 1 == 0, kind & 2 == 0);
+        [
+            (8, 5, c[5] == five),
+            (9, 5, no_forward || in_range(0, c[5])),
+            (10, 5, no_forward || self.inside(0, c[5])),
+            (8, 6, c[6] == six),
+            (9, 6, no_backward || in_range(1, c[6])),
+            (10, 6, no_backward || self.inside(1, c[6])),
+            (8, 7, c[7] == seven),
+            (8, 8, c[8] == eight),
+        ]
+    }
+
+    /// The lengths once W·H macroblocks have come. Chroma rows stand behind all of the luma (C ≥ 16H), and a row is no
+    /// longer than the pitch, so the highest byte is that of the last column in the last chroma row.
+    fn lengths(&self) -> [u64; 4] {
+        let end = |[row, column]: [i32; 2]| match row {
+            0 => 0,
+            _ => (u64::from(self.chroma_row) + row as u64) * u64::from(self.pitch) + 2 * column as u64 + 2,
+        };
+        let own = end([8 * self.rows as i32 - 1, 8 * self.columns as i32 - 1]);
+        [own, own, end(self.last[0]), end(self.last[1])]
+    }
+}
+
+/// 0 intra, 1 forward, 2 backward, 3 both, of a macroblock whose word 1 is permitted.
+#[inline(always)]
+fn kind(c: &[u32; 9]) -> u32 {
+    if c[1] & 0x2000 != 0 {
+        0
+    } else {
+        c[1] >> 8 & 3
+    }
+}
+
+/// x in the low half, y in the high half, two's complement.
+#[inline(always)]
+fn components(vector: u32) -> [i32; 2] {
+    [(vector as i16).into(), vector as i32 >> 16]
+}
+
+/// Words 5 to 8 as their kind asks for.
+fn due(kind: u32, c: &[u32; 9]) -> [u32; 4] {
+    match kind {
+        0 => [0; 4],
+        1 => [c[5]; 4],
+        2 => [c[6]; 4],
+        _ => [c[5], c[6], c[5], c[6]],
+    }
+}
+
+/// The check of a batch of which no word beyond the first so many is judged.
+fn check_up_to(most: usize, words: &[u32], buffers: [u64; 4]) -> Answer {
+    let walked = walk(&words[..words.len().min(most)]);
+    match walked {
+        Err((number, place)) if number != 1 => (number, place as u64, [0; 4]),
+        _ if words.len() > most => (27, most as u64, [0; 4]),
+        Err((number, place)) => (number, place as u64, [0; 4]),
+        Ok(lengths) => match (0..4).find(|&n| buffers[n] < lengths[n]) {
+            Some(lowest) => (13, lowest as u64, lengths),
+            None => (0, 0, lengths),
+        },
+    }
+}
+
+/// The answer to a batch of words beside buffers of these lengths.
+pub fn check(words: &[u32], buffers: [u64; 4]) -> Answer {
+    check_up_to(4_294_967_295, words, buffers)
+}
+
+#[cfg(test)]
+mod tests {
+    use super::*;
+    use crate::batch_cases::made_by;
+    use crate::batch_damage::damage;
+    use crate::batch_document::{document, p1};
+    use crate::batch_faults::faults;
+    use crate::batch_rules::rule_table;
+    use crate::batch_valid::{pick, random_batch, random_frame};
+    use crate::command::COMMANDS;
+    use crate::random::Random;
+    use crate::valid_cases::valid;
+    use std::collections::BTreeMap;
+
+    /// Holds the answer against the plainest reading's, and gives its number.
+    fn same(words: &[u32], buffers: [u64; 4]) -> u8 {
+        let due = crate::check::check(words, buffers);
+        assert_eq!(check(words, buffers), (due.number, due.place, due.lengths), "{words:x?} {buffers:?}");
+        due.number
+    }
+
+    #[test]
+    fn generated_cases() {
+        for case in made_by(&[document, rule_table, valid, damage, faults]) {
+            same(&case.words, case.buffers);
+        }
+    }
+
+    /// What `batch_cases` describes: words, lengths, lent bytes, and the words.
+    #[test]
+    fn stored_cases() {
+        let path = concat!(env!("CARGO_MANIFEST_DIR"), "/../../crates/batch_cases/stdin");
+        let stored = std::fs::read(path).unwrap();
+        let (mut rest, mut cases) = (&stored[..], 0);
+        while !rest.is_empty() {
+            let number = |from: usize, bytes: usize| {
+                rest[from..from + bytes].iter().rev().fold(0u64, |number, byte| number << 8 | u64::from(*byte))
+            };
+            let count = number(0, 4) as usize;
+            let words: Vec<u32> = (0..count).map(|n| number(40 + 4 * n, 4) as u32).collect();
+            same(&words, [4, 12, 20, 28].map(|from| number(from, 8)));
+            rest = &rest[40 + 4 * count..];
+            cases += 1;
+        }
+        assert!(cases > 4000, "{cases}");
+    }
+
+    /// Batches that keep every rule, beside exact and shorter buffers, and each with a bit, a word or a run of words changed.
+    #[test]
+    fn random_batches() {
+        let mut r = Random::new(61);
+        let mut numbers = BTreeMap::new();
+        for n in 0..30_000 {
+            let (columns, rows) = (r.within(1, 5) as u32, r.within(1, 4) as u32);
+            let frame = random_frame(&mut r, n % 3 + 1, columns, rows);
+            let words = random_batch(&mut r, &frame, n as usize % 4, n as usize % 3).words();
+            let mut buffers = check(&words, [u64::MAX; 4]).2;
+            *numbers.entry(same(&words, buffers)).or_insert(0) += 1;
+            let buffer = r.within(0, 3) as usize;
+            buffers[buffer] = buffers[buffer].saturating_sub(1);
+            for _ in 0..4 {
+                let damaged = damaged(&mut r, &words);
+                *numbers.entry(same(&damaged, buffers)).or_insert(0) += 1;
+            }
+        }
+        assert!(numbers.keys().copied().eq(0..=13) && numbers.values().all(|count| *count > 100), "{numbers:?}");
+    }
+
+    fn damaged(r: &mut Random, words: &[u32]) -> Vec<u32> {
+        let mut words = words.to_vec();
+        let at = r.within(0, words.len() as i64 - 1) as usize;
+        match r.within(0, 7) {
+            0 => words.truncate(at),
+            1 => words[at] = r.next() as u32,
+            2 => words[at] = pick(r, &COMMANDS).0,
+            3 => {
+                words.remove(at);
+            }
+            4 => words.insert(at, pick(r, &[0, 1, 0x0500_0000, 0x7349_0007])),
+            5 => words.push(r.within(0, 1) as u32),
+            _ => words[at] ^= 1 << r.within(0, 31),
+        }
+        words
+    }
+
+    #[test]
+    fn too_many_words() {
+        let zeros = [&p1()[..], &[0, 0]].concat();
+        let answer = |most: usize, words: &[u32]| check_up_to(most, words, [2960; 4]);
+        assert_eq!(answer(39, &zeros), (0, 0, [2960, 2960, 0, 0]));
+        for most in 0..39 {
+            assert_eq!(answer(most, &zeros), (27, most as u64, [0; 4]));
+        }
+        let late = [&zeros[..], &[7]].concat();
+        assert_eq!(answer(40, &late), (12, 39, [0; 4]));
+        assert_eq!(answer(39, &late), (27, 39, [0; 4]));
+    }
+}

@@ -1,0 +1,75 @@
+//! Small batches as files for the program, each with the line that it prints for them.
+
+use crate::batch::{moved, rows, skip, Frame};
+use crate::batch_cases::needed;
+use crate::batch_document::p1;
+use crate::command_cases::plain;
+use crate::leaf::word_of;
+use crate::program::{bytes_of, line_of};
+use std::path::Path;
+
+/// Three by two macroblocks of a B picture: both, skipped like it, backward; intra, forward, both.
+fn b_picture() -> Vec<u32> {
+    let (right, up) = (word_of(7, 0), word_of(-2, -9));
+    let upper = [moved(3, right, word_of(0, 5)), skip(3, right, word_of(0, 5)), moved(2, 0, word_of(-31, 2))];
+    let lower = [moved(0, 0, 0), moved(1, up, 0), moved(3, word_of(-64, -32), up)];
+    rows(&Frame::new(3, 3, 2), &[upper, lower].concat()).words()
+}
+
+/// Two by two of a P picture: the vector of the lower left macroblock points five half samples down.
+fn vector_below() -> Vec<u32> {
+    let still = moved(1, 0, 0);
+    rows(&Frame::new(2, 2, 2), &[still, still, moved(1, word_of(4, 5), 0), still]).words()
+}
+
+/// Document 01's P10: the forward reference has to have two bytes more than for a vector of zero.
+fn p10() -> Vec<u32> {
+    rows(&Frame::new(2, 2, 1), &[plain(1, word_of(2, 0), 0), moved(0, 0, 0)]).words()
+}
+
+/// Each file's name and bytes.
+fn samples() -> [(&'static str, Vec<u8>); 4] {
+    let beside_needed = |words: Vec<u32>| bytes_of(&words, needed(&words));
+    [
+        ("p1.batch", bytes_of(&p1(), [2960, 2960, 0, 0])),
+        ("b_picture.batch", beside_needed(b_picture())),
+        ("vector_below.batch", bytes_of(&vector_below(), [1 << 20; 4])),
+        ("short_reference.batch", bytes_of(&p10(), [2976, 2976, 2961, 0])),
+    ]
+}
+
+/// Writes DIR/NAME.batch and DIR/NAME.batch.line.
+pub fn write(dir: &Path) -> std::io::Result<()> {
+    std::fs::create_dir_all(dir)?;
+    for (name, bytes) in samples() {
+        std::fs::write(dir.join(name), &bytes)?;
+        std::fs::write(dir.join(format!("{name}.line")), line_of(&bytes) + "\n")?;
+    }
+    Ok(())
+}
+
+#[cfg(test)]
+mod tests {
+    use super::*;
+
+    #[test]
+    fn lines() {
+        let lines = samples().map(|(_, bytes)| line_of(&bytes));
+        assert_eq!(lines[0], "accept 2960 2960 0 0");
+        assert!(lines[1].starts_with("accept ") && !lines[1].contains(" 0"), "{}", lines[1]);
+        assert_eq!(lines[2], "refuse 10 50");
+        assert_eq!(lines[3], "refuse 13 2 2976 2976 2962 0");
+    }
+
+    /// The repository's samples are these, and there are no others.
+    #[test]
+    fn stored() {
+        let dir = Path::new(env!("CARGO_MANIFEST_DIR")).join("../../samples");
+        for (name, bytes) in samples() {
+            assert!(bytes == std::fs::read(dir.join(name)).unwrap(), "{name}");
+            let line = std::fs::read_to_string(dir.join(format!("{name}.line"))).unwrap();
+            assert_eq!(line, line_of(&bytes) + "\n", "{name}");
+        }
+        assert_eq!(std::fs::read_dir(dir).unwrap().count(), 2 * samples().len());
+    }
+}
