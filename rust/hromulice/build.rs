@@ -1,4 +1,5 @@
-//! Links libhromulice.a from HROMULICE_LIB_DIR, or from the repository's own target/staticlib.
+//! Links libhromulice.a from HROMULICE_LIB_DIR, or from the repository's own target/staticlib. A relative directory is taken
+//! from this crate's.
 
 use std::env;
 use std::path::PathBuf;
@@ -7,9 +8,10 @@ fn main() {
     println!("cargo::rerun-if-env-changed=HROMULICE_LIB_DIR");
     let manifest = PathBuf::from(env::var_os("CARGO_MANIFEST_DIR").unwrap());
     let dir = match env::var_os("HROMULICE_LIB_DIR") {
-        Some(dir) => PathBuf::from(dir),
+        Some(dir) => manifest.join(dir),
         None => manifest.join("../../target/staticlib"),
     };
+    let dir = dir.canonicalize().unwrap_or(dir);
     let archive = dir.join("libhromulice.a");
     println!("cargo::rerun-if-changed={}", archive.display());
     if archive.is_file() {

@@ -1,0 +1,94 @@
+//! What is timed, each behind a call that is not inlined, and their answers held against each other.
+
+use hromulice::{Check, Lengths};
+use reference::plain;
+use std::hint::black_box;
+
+/// 64 KiB.
+const PART_WORDS: usize = 16384;
+
+/// What the calls work on: batches, one after the other, and a log that is long enough for any one's records.
+pub struct Work {
+    pub batches: Vec<Vec<u32>>,
+    pub log: Vec<u8>,
+}
+
+impl Work {
+    pub fn words(&self) -> usize {
+        self.batches.iter().map(Vec::len).sum()
+    }
+
+    /// Has every batch taken by a contender.
+    pub fn run(&mut self, contender: &Contender) {
+        for words in &self.batches {
+            black_box((contender.call)(black_box(words), &mut self.log));
+        }
+    }
+
+    /// Fails unless every batch is accepted by all, with the same lengths.
+    pub fn agree(&mut self) {
+        for words in &self.batches {
+            let answers = CONTENDERS.map(|contender| (contender.name, (contender.call)(words, &mut self.log)));
+            for (name, answer) in &answers[CHECK..] {
+                assert_eq!(*answer, answers[PLAIN].1, "{name} and plain");
+            }
+            assert_eq!(answers[PLAIN].1[0], 0, "the batch is refused");
+        }
+    }
+}
+
+pub struct Contender {
+    pub name: &'static str,
+    /// Number, place and the four lengths, or a sum in their place.
+    pub call: fn(&[u32], &mut [u8]) -> [u64; 6],
+}
+
+/// By their place in each list of figures.
+pub const SUM: usize = 0;
+pub const PLAIN: usize = 1;
+pub const CHECK: usize = 2;
+pub const PARTS: usize = 3;
+pub const DECODE: usize = 4;
+
+pub const CONTENDERS: [Contender; 5] = [
+    Contender { name: "sum", call: sum },
+    Contender { name: "plain", call: plain_check },
+    Contender { name: "check", call: check },
+    Contender { name: "parts", call: parts },
+    Contender { name: "decode", call: decode },
+];
+
+#[inline(never)]
+fn sum(words: &[u32], _: &mut [u8]) -> [u64; 6] {
+    [words.iter().fold(0, |sum: u64, word| sum.wrapping_add((*word).into())), 0, 0, 0, 0, 0]
+}
+
+#[inline(never)]
+fn plain_check(words: &[u32], _: &mut [u8]) -> [u64; 6] {
+    let (number, place, [l0, l1, l2, l3]) = plain::check(words, [u64::MAX; 4]);
+    [number.into(), place, l0, l1, l2, l3]
+}
+
+fn figures(report: hromulice::Report) -> [u64; 6] {
+    let [l0, l1, l2, l3] = report.needed().unwrap_or(Lengths::NONE).into();
+    [report.number().into(), report.place(), l0, l1, l2, l3]
+}
+
+#[inline(never)]
+fn check(words: &[u32], _: &mut [u8]) -> [u64; 6] {
+    figures(hromulice::check(words, Lengths::LONGEST))
+}
+
+#[inline(never)]
+fn parts(words: &[u32], _: &mut [u8]) -> [u64; 6] {
+    let mut check = Check::new(Lengths::LONGEST);
+    for part in words.chunks(PART_WORDS) {
+        check.hand_over(part);
+    }
+    figures(check.report())
+}
+
+#[inline(never)]
+fn decode(words: &[u32], log: &mut [u8]) -> [u64; 6] {
+    figures(hromulice::decode(words, Lengths::LONGEST, log))
+}

@@ -1,0 +1,172 @@
+//! Valid pictures with the variety of a coded one, the same in every run: vectors that differ from macroblock to macroblock
+//! over the whole range of their f code, intra macroblocks among the predicted ones, skipped ones, slices within rows, several
+//! groups. Kinds follow each other at random, which is hard on a processor that predicts branches.
+
+use crate::contenders::Work;
+use reference::random::Random;
+
+fn percent(r: &mut Random, chance: u64) -> bool {
+    r.next() % 100 < chance
+}
+
+fn within(r: &mut Random, low: i32, high: i32) -> i32 {
+    r.within(low.into(), high.into()) as i32
+}
+
+/// A picture type and the size in macroblocks.
+#[derive(Clone, Copy)]
+pub struct Picture {
+    /// 1 I, 2 P, 3 B.
+    pub coding: u32,
+    pub columns: u32,
+    pub rows: u32,
+}
+
+/// As many macroblocks as the largest picture has.
+const MACROBLOCKS: u32 = 256 * 175;
+
+/// The f code of every component that has one: vectors from −128 to 127 half samples.
+const F_CODE: u32 = 4;
+
+/// Macroblocks of a coded picture: how many of a hundred are intra, and how many repeat the one before as skipped.
+const INTRA: [u64; 3] = [100, 12, 6];
+const SKIPPED: [u64; 3] = [0, 15, 25];
+
+impl Picture {
+    pub fn name(&self) -> &'static str {
+        ["I", "P", "B"][self.coding as usize - 1]
+    }
+
+    /// So many different pictures of this size that they have about as many macroblocks as one of the largest. So a small
+    /// picture is not found in a nearer cache, and the processor does not learn by heart which macroblock follows which.
+    pub fn several(&self) -> Work {
+        let count = (MACROBLOCKS / (self.columns * self.rows)).max(1);
+        let log = vec![0; 24 * (self.columns * self.rows) as usize];
+        Work { batches: (0..count).map(|seed| self.words(seed)).collect(), log }
+    }
+
+    fn state(&self) -> Vec<u32> {
+        let (width, height) = (16 * self.columns, 16 * self.rows);
+        let pitch = width.next_multiple_of(128);
+        let codes = [0xffff, 0xff00 | (F_CODE * 0x11), F_CODE * 0x1111][self.coding as usize - 1];
+        let mut words = vec![0x7001_0004, 0, (height - 1) << 18 | (width - 1) << 4, 0x4800_0003 | (pitch - 1) << 3, height, 0];
+        words.extend([0x7300_000b, codes << 16 | 0x3400, self.coding << 9, (self.rows - 1) << 16 | (self.columns - 1)]);
+        words.extend([0; 9]);
+        words
+    }
+
+    /// The whole batch. A slice ends with its row and once in fifty macroblocks within it, a group about every fourth row.
+    pub fn words(&self, seed: u32) -> Vec<u32> {
+        let mut r = Random::new(u64::from(self.coding << 16 | seed) << 32 | u64::from(self.columns << 16 | self.rows));
+        let mut words = self.state();
+        let (mut slice_begins, mut group_begins) = (true, true);
+        let mut before = Prediction::Intra;
+        for k in 0..self.columns * self.rows {
+            let (column, row) = (k % self.columns, k / self.columns);
+            let row_ends = column + 1 == self.columns;
+            let slice_ends = row_ends || percent(&mut r, 2);
+            let group_ends = row_ends && (row + 1 == self.rows || percent(&mut r, 25));
+            if group_begins {
+                words.extend([0x7343_0006, 0, 0, 0, 0, 0, 0, 0]);
+            }
+            let inner = !slice_begins && !slice_ends;
+            let repeated =
+                self.repeated(before, column, row).filter(|_| inner && percent(&mut r, SKIPPED[self.coding as usize - 1]));
+            let prediction = repeated.unwrap_or_else(|| self.predicted(&mut r, column, row));
+            let pattern = match prediction {
+                Prediction::Intra => 63,
+                _ if repeated.is_some() => 0,
+                _ => r.next() as u32 & 63,
+            };
+            let flags = u32::from(slice_ends) << 31 | u32::from(slice_begins) << 30;
+            let groups = u32::from(group_ends) << 26 | u32::from(group_begins) << 24;
+            words.extend([0x7349_0007, prediction.type_bits() | u32::from(repeated.is_some()) << 2, row << 16 | column]);
+            words.extend([0xff80_0000 | pattern << 6, flags | groups | within(&mut r, 1, 31) as u32]);
+            words.extend(prediction.vector_words());
+            (slice_begins, group_begins, before) = (slice_ends, group_ends, prediction);
+        }
+        words.push(0x0500_0000);
+        words
+    }
+
+    fn predicted(&self, r: &mut Random, column: u32, row: u32) -> Prediction {
+        if percent(r, INTRA[self.coding as usize - 1]) {
+            return Prediction::Intra;
+        }
+        let (forward, backward) = (self.vector(r, column, row), self.vector(r, column, row));
+        match if self.coding == 2 { 0 } else { within(r, 0, 3) } {
+            0 => Prediction::Forward(forward),
+            1 => Prediction::Backward(backward),
+            _ => Prediction::Both(forward, backward),
+        }
+    }
+
+    /// The values that a component may have at a place in a line of n macroblocks.
+    fn span(place: u32, n: u32) -> (i32, i32) {
+        let limit = 8 << F_CODE;
+        ((-limit).max(-32 * place as i32), (limit - 1).min(32 * (n - 1 - place) as i32))
+    }
+
+    fn vector(&self, r: &mut Random, column: u32, row: u32) -> (i32, i32) {
+        let mut component = |(low, high): (i32, i32)| within(r, low, high);
+        (component(Self::span(column, self.columns)), component(Self::span(row, self.rows)))
+    }
+
+    /// What a skipped macroblock may be here: unmoved in P, like the one before in B.
+    fn repeated(&self, before: Prediction, column: u32, row: u32) -> Option<Prediction> {
+        let fits = |(x, y): (i32, i32)| {
+            let ((left, right), (top, bottom)) = (Self::span(column, self.columns), Self::span(row, self.rows));
+            (left..=right).contains(&x) && (top..=bottom).contains(&y)
+        };
+        match (self.coding, before) {
+            (2, _) => Some(Prediction::Forward((0, 0))),
+            (3, Prediction::Forward(v) | Prediction::Backward(v)) if fits(v) => Some(before),
+            (3, Prediction::Both(v, w)) if fits(v) && fits(w) => Some(before),
+            _ => None,
+        }
+    }
+}
+
+/// So many words of carried commands and NOOPs, about as many words of each.
+pub fn carried(count: usize) -> Vec<u32> {
+    const COMMANDS: [(u32, usize); 6] =
+        [(0x7000_0003, 5), (0x7002_003b, 61), (0x7003_0018, 26), (0x7004_0008, 10), (0x7007_0010, 18), (0x7008_0020, 34)];
+    let mut r = Random::new(7);
+    let mut words = Vec::with_capacity(count);
+    while words.len() + 61 <= count {
+        let (header, length) = COMMANDS[r.within(0, 5) as usize];
+        words.push(header);
+        words.extend((1..length).map(|_| r.next() as u32));
+        words.resize(words.len() + r.within(0, 50) as usize, 0);
+    }
+    words.resize(count, 0);
+    words
+}
+
+#[derive(Clone, Copy)]
+enum Prediction {
+    Intra,
+    Forward((i32, i32)),
+    Backward((i32, i32)),
+    Both((i32, i32), (i32, i32)),
+}
+
+impl Prediction {
+    fn type_bits(self) -> u32 {
+        match self {
+            Prediction::Intra => 0x3a00,
+            Prediction::Forward(_) => 0x100,
+            Prediction::Backward(_) => 0x200,
+            Prediction::Both(_, _) => 0x300,
+        }
+    }
+
+    fn vector_words(self) -> [u32; 4] {
+        let word = |(x, y): (i32, i32)| u32::from(y as u16) << 16 | u32::from(x as u16);
+        match self {
+            Prediction::Intra => [0; 4],
+            Prediction::Forward(v) | Prediction::Backward(v) => [word(v); 4],
+            Prediction::Both(v, w) => [word(v), word(w), word(v), word(w)],
+        }
+    }
+}
