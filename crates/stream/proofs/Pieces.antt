@@ -1,8 +1,8 @@
 -- The line of an input in pieces is the line of all its bytes.
-use mathlib.Core.Bool.{Bool, true, false, cond}
+use mathlib.Core.Bool.{Bool, true, false}
 use mathlib.Core.List.{List, [], _∷_, foldl, foldl-append, flatten}
 use mathlib.Core.Path.{_≡_, refl, sym, _∙_, ap}
-use Prim.Native.Nat.{ℕ, _+_, _%_, _≤_}
+use Prim.Native.Nat.{ℕ, _+_}
 use native.Mathlib.Omega.{arith}
 use borrow.Author.Tests.{ltb-true, ltb-false}
 use lib.Dec.{ltb}
@@ -12,8 +12,6 @@ use Rattle.progress.specs.Progress.{fresh}
 use Rattle.batch.specs.Reports.{finish, verdictOf, report}
 use Rattle.batch.specs.Walk.{Walk, going, stopped, step, start}
 use Rattle.batch.specs.declared.Lengths.{Lengths}
-use Rattle.batch.specs.declared.Report.{Report}
-use Rattle.batch.specs.declared.Report.the-variants.{Refused}
 use Rattle.batch.proofs.WalkLaws.{counted}
 use Rattle.stream.specs.Line.{lengthsOf, wordsOf, leftOver, answerTo, outcomeOf, lineFor, lineOf}
 use Rattle.stream.specs.Input.{Input, head, body, feed, wordsThrough, finished, inputIn, bytesIn, Along, InPieces}

@@ -5,7 +5,7 @@ use mathlib.Core.Path.{_≡_, refl, sym, _∙_, ap}
 use Prim.Native.Nat.{ℕ, zero, suc, _+_, _*_, _-_, _/_, _%_, _^_, _≤_, _<_}
 use native.Mathlib.Nat.{pow-zero, pow-suc}
 use native.Mathlib.Omega.{arith}
-use borrow.Author.Tests.{lt-ltb, le-ltb}
+use borrow.Author.Tests.{lt-ltb, le-ltb, ltb-false}
 use lib.Dec.{ltb}
 use lib.ListN.{length, getD, drop, set, replicate, length-set}
 use lib.Seq.{drop-cons, drop-set-lt, getD-set-same, append-snoc}
@@ -43,6 +43,25 @@ pub decimal-value : (n : ℕ) → n < 2 ^ 64 → valueOf (decimal n) ≡ n
 unfolding decimal
 decimal-value n h = digits-value 20 n (omega arith)
 
+-- its first digit is no zero
+first-kept : (xs ys : List ℕ) → 48 < getD xs 0 0 → 48 < getD (xs ++ ys) 0 0
+first-kept [] ys h = absurd (omega arith)
+first-kept (x ∷ xs) ys h = h
+
+first-digit : (k n : ℕ) → 1 ≤ n → n < 10 ^ k → 48 < getD (digits k n) 0 0
+first-digit zero n some h = absurd (omega (arith, pow-zero 10))
+first-digit (suc k) n some h = by (ltb n 10) refl (λ more. first-digit k (n / 10) (omega arith) (omega (arith, pow-suc 10 k)))
+  where
+    by : (t : Bool) → ltb n 10 ≡ t → (10 ≤ n → 48 < getD (digits k (n / 10)) 0 0)
+        → 48 < getD (cond t (digit n ∷ []) (digits k (n / 10) ++ (digit (n % 10) ∷ []))) 0 0
+    by true e up = omega arith
+    by false e up = first-kept (digits k (n / 10)) (digit (n % 10) ∷ []) (up (ltb-false n 10 e))
+
+-- No number but 0 begins with the digit 0.
+pub no-zero-first : (n : ℕ) → 1 ≤ n → n < 2 ^ 64 → 48 < getD (decimal n) 0 0
+unfolding decimal
+no-zero-first n some h = first-digit 20 n some (omega arith)
+
 -- The digits behind the first `i` places of a text of 20 have been written, and `rest` is left of the number.
 abbrev pub Spelled : ℕ → List ℕ → ℕ → ℕ → Type 0
 Spelled n text i rest = (1 ≤ i) × ((i ≤ 20) × ((length text ≡ 20) × ((rest < 10 ^ i) × (digits i rest ++ drop i text ≡ decimal n))))
@@ -69,24 +88,13 @@ module _ (n : ℕ) (text : List ℕ) (k rest : ℕ) (so : Spelled n text (suc k)
       let few = so .1 .0 in
       let len = so .1 .1 .0 in
       let fits = so .1 .1 .1 .0 in
-      let here : digits (suc k) rest ≡ digits k (rest / 10) ++ (d ∷ []) = simp (le-ltb rest 10 more) in (
-        some-left k rest more fits,
-        (
-          omega arith,
-          (
-            length-set text k d ∙ len,
-            (
-              omega (arith, pow-suc 10 k),
-              (
-                  ap (λ (r : List ℕ). digits k (rest / 10) ++ r) (written text k d (omega arith))
-                  ∙ sym (append-snoc (digits k (rest / 10)) d (drop (suc k) text))
-                  ∙ ap (λ (r : List ℕ). r ++ drop (suc k) text) (sym here)
-                  ∙ so .1 .1 .1 .1
-                  ),
-            ),
-          ),
-        ),
-      )
+      let here : digits (suc k) rest ≡ digits k (rest / 10) ++ (d ∷ []) = simp (le-ltb rest 10 more) in
+      let spelled =
+      ap (λ (r : List ℕ). digits k (rest / 10) ++ r) (written text k d (omega arith))
+      ∙ sym (append-snoc (digits k (rest / 10)) d (drop (suc k) text))
+      ∙ ap (λ (r : List ℕ). r ++ drop (suc k) text) (sym here)
+      ∙ so .1 .1 .1 .1 in
+      (some-left k rest more fits, (omega arith, (length-set text k d ∙ len, (omega (arith, pow-suc 10 k), spelled))))
 
   pub last-digit : rest < 10 → drop k (set text k (48 + rest)) ≡ decimal n
   last-digit few =

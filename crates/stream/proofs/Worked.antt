@@ -18,7 +18,6 @@ use Rattle.command.specs.Rules.{keptBy, fieldRules, vectorRules, commandRules}
 use Rattle.picture.specs.Surfaces.{surfaceOf, surfaceTable, surfaceRules}
 use Rattle.picture.specs.Pictures.{pictureOf, pictureTable, pictureRules}
 use Rattle.progress.specs.Progress.{fresh}
-use Rattle.progress.specs.declared.Extents.{Extents}
 use Rattle.macroblocks.specs.Blocks.{forwardOf, backwardOf, predicted, blocksOf}
 use Rattle.macroblocks.specs.Placing.{placedBy, placedRules, macroblockRules}
 use Rattle.macroblocks.specs.Progressing.{positionAfter, stageAfter, extentsAfter, progressAfter, macroblockNext}
@@ -26,7 +25,6 @@ use Rattle.judging.specs.Sequence.{surfaceNext, pictureNext, groupNext, endNext
 use Rattle.judging.specs.Judging.{rulesOf, nextOf, judge}
 use Rattle.batch.specs.Walk.{after, step}
 use Rattle.batch.specs.Reports.{bufferRules, measured, verdictOf, report}
-use Rattle.batch.specs.declared.Lengths.{Lengths}
 use Rattle.batch.specs.declared.Report.the-variants.{Accepted}
 use Rattle.stream.specs.Text.{ascii, decimal}
 use Rattle.stream.specs.Line.{lengthsOf, answerTo, outcomeOf, textOf, lineOf}

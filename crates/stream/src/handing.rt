@@ -8,10 +8,10 @@ use parts::State;
 ghost use mathlib.Core.Path.{_≡_};
 ghost use mathlib.Core.Bool.{false};
 ghost use mathlib.Core.List.{foldl};
-ghost use Prim.Native.Nat.{_≤_, _<_};
-ghost use lib.ListN.{length, take};
+ghost use Prim.Native.Nat.{_<_};
+ghost use lib.ListN.{take};
 ghost use Rattle.parts.specs.States.{walkIn};
-ghost use Rattle.stream.specs.Input.{head, body, feed, heldOf, inputIn, Begun, Handed};
+ghost use Rattle.stream.specs.Input.{body, feed, heldOf, inputIn, Begun, Handed};
 
 // An input before its first byte.
 pub fn begin() -> Stream

@@ -1,10 +1,10 @@
 use mathlib.Core.List.{[], _++_, foldl}
 use mathlib.Core.Path.{_≡_, refl, sym, _∙_, ap, ap₂}
-use Prim.Native.Nat.{ℕ, _+_, _-_, _≤_}
+use Prim.Native.Nat.{_+_, _-_}
 use native.Mathlib.Omega.{arith}
-use lib.ListN.{length, take, drop}
+use lib.ListN.{take, drop}
 use lib.Seq.{length-take-le, take-all}
-use Rattle.batch.specs.Walk.{Walk, start}
+use Rattle.batch.specs.Walk.{Walk}
 use Rattle.batch.specs.declared.Lengths.{Lengths}
 use Rattle.parts.specs.States.{walkIn}
 use Rattle.stream.specs.Line.{lengthsOf}

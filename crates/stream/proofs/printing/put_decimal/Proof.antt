@@ -2,7 +2,6 @@ use mathlib.Core.List.{List, _++_}
 use mathlib.Core.Path.{_≡_, _∙_, ap, subst}
 use Prim.Native.Nat.{ℕ, suc, _+_, _-_, _≤_, _<_}
 use native.Mathlib.Omega.{arith}
-use borrow.Author.Needs.{needs}
 use lib.ListN.{length, take, drop, set, length-set, length-drop}
 use Rattle.stream.specs.Text.{decimal}
 use Rattle.stream.specs.Input.{bytesIn}

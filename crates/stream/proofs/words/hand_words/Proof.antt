@@ -1,14 +1,14 @@
 use mathlib.Core.List.{[], foldl}
 use mathlib.Core.Path.{_≡_, refl, sym, _∙_, ap}
-use Prim.Native.Nat.{_+_, _*_, _-_, _≤_, _<_}
+use Prim.Native.Nat.{_+_, _*_, _-_, _≤_}
 use native.Mathlib.Omega.{arith}
 use borrow.Author.Needs.{needs}
-use lib.ListN.{length, take, drop, length-drop}
+use lib.ListN.{length, drop, length-drop}
 use lib.Seq.{length-take-le}
-use Rattle.batch.specs.Walk.{Walk, step}
+use Rattle.batch.specs.Walk.{Walk}
 use Rattle.batch.specs.declared.Lengths.{Lengths}
 use Rattle.parts.specs.States.{walkIn}
-use Rattle.stream.specs.Input.{Input, body, feed}
+use Rattle.stream.specs.Input.{body, feed}
 use Rattle.stream.proofs.WordLaws.{words-on, lent-rest, few-held}
 use Rattle.stream.proofs.words.hand_words.Statement.{statement}
 use Rattle.stream.proofs.words.hand_words.Tie as tie
