@@ -3,7 +3,7 @@
  * Link libhromulice.a (x86-64 Linux; `rt staticlib hromulice` builds it). It needs nothing but memcpy, keeps no state of its own,
  * allocates nothing, does no input or output, and may be called from any number of threads. Each function is proved: it returns for
  * all arguments that keep the rules on pointers below, whatever the words, bytes, counts and lengths are, and it answers what is said
- * here. Measured and not proved: hromulice_hand_over uses less than 8 KiB of stack, each other function less than 2 KiB.
+ * here. That there is stack enough is not proved.
  *
  * A batch is a run of 32-bit words. Beside it come the lengths in bytes of the four picture buffers. An answer is a number, 0 for
  * accepted, and a place. A refusal writes nothing into the log, the record or the words that were lent.
