@@ -122,7 +122,7 @@ def check_unfolding():
         count += 1
         text = file.read_text()
         names = {n for group in re.findall(r'^use Rattle\.prediction\.specs\.(?!declared)\S+\.\{(.*)\}$', text, re.M) for n in group.split(', ')}
-        unfolded = {n for group in re.findall(r'^ *unfolding (.*(?:\n {4,}\S.*)*)', text, re.M) for n in group.split()}
+        unfolded = {n for m in re.finditer(r'^( *)unfolding (.*(?:\n\1 {4,}\S.*)*)', text, re.M) for n in m[2].split()}
         for name in sorted(names & unfolded):
             faults.append(f'{file.relative_to(root)}: unfolds {name} of prediction')
     return count
