@@ -27,6 +27,13 @@ use Rattle.progress.specs.declared.Progress.{Progress}
 use Rattle.rows.specs.Steps.{AtWord}
 use Rattle.rows.specs.Words.{lowHalf, boundBits, dueBits, FlagsKept, ZeroWords, IntraKept, Repeated, SkipKept, InterKept}
 
+left : (p q : Bool) → T p → T (p || q)
+left true q s = tt
+
+or-true : (a b : Bool) → b ≡ true → (a || b) ≡ true
+or-true true b e = refl
+or-true false b e = e
+
 -- ---- word 1: fields that agree with those of another word say the same type
 module _ (one w : ℕ) (part : (h l : ℕ) → T (ltb h 16) → T (ltb h 2 || ltb 2 l) → bits one h l ≡ bits w h l) where
   same-kind : kindIn one ≡ kindIn w
@@ -52,18 +59,12 @@ typed-intra one e = record { kind = same-kind one 0x3a00 part; fixed = same-fixe
   where
     part : (h l : ℕ) → T (ltb h 16) → T (ltb h 2 || ltb 2 l) → bits one h l ≡ bits 0x3a00 h l
     part h l s t = sym (field-kept one 31 16 0 h l (left (ltb h 16) (ltb 31 l) s)) ∙ ap (λ (x : ℕ). bits x h l) e
-      where
-        left : (p q : Bool) → T p → T (p || q)
-        left true q s = tt
 
 -- an inter macroblock, skipped or not
 pub typed-inter : (one w k : ℕ) → withBits (lowHalf one) 2 2 0 ≡ w → kindIn w ≡ k → fixed1 w ≡ true → typePermitted w ≡ true → Typed one k
 typed-inter one w k e ek ef et =
     record { kind = same-kind one w part ∙ ek; fixed = same-fixed one w part ∙ ef; permitted = same-typed one w part ∙ et }
   where
-    left : (p q : Bool) → T p → T (p || q)
-    left true q s = tt
-
     part : (h l : ℕ) → T (ltb h 16) → T (ltb h 2 || ltb 2 l) → bits one h l ≡ bits w h l
     part h l s t =
         sym (field-kept one 31 16 0 h l (left (ltb h 16) (ltb 31 l) s))
@@ -139,15 +140,11 @@ pub ends-kept : (four due : ℕ) (last : Bool) → FlagsKept four due last
     → ((not last || isSet (bits four 31 31)) ≡ true) × ((not (isSet (bits four 26 26)) || isSet (bits four 31 31)) ≡ true)
 ends-kept four due last k = by last (k .ends)
   where
-    or-true : (a : Bool) → (a || true) ≡ true
-    or-true true = refl
-    or-true false = refl
-
     by : (last : Bool) → (bits four 31 31 ≡ 1) ⊎ ((last ≡ false) × (bits four 26 26 ≡ 0))
         → ((not last || isSet (bits four 31 31)) ≡ true) × ((not (isSet (bits four 26 26)) || isSet (bits four 31 31)) ≡ true)
     by last (inl e) = (
-      ap (λ (x : ℕ). not last || isSet x) e ∙ or-true (not last),
-      ap (λ (x : ℕ). not (isSet (bits four 26 26)) || isSet x) e ∙ or-true (not (isSet (bits four 26 26))),
+      ap (λ (x : ℕ). not last || isSet x) e ∙ or-true (not last) true refl,
+      ap (λ (x : ℕ). not (isSet (bits four 26 26)) || isSet x) e ∙ or-true (not (isSet (bits four 26 26))) true refl,
     )
     by last (inr e) =
         (ap (λ (x : Bool). not x || isSet (bits four 31 31)) (e .0), ap (λ (x : ℕ). not (isSet x) || isSet (bits four 31 31)) (e .1))
@@ -207,10 +204,6 @@ module _ (q : Progress) (c before : List ℕ) (k : ℕ) (some : 1 ≤ k) (kind :
   skip-permitted : SkipKept (q .picture .coding) before c → skipPermitted (q .picture .coding) (q .previous) k c ≡ true
   skip-permitted s = by (s .allowed)
     where
-      or-true : (a b : Bool) → b ≡ true → (a || b) ≡ true
-      or-true true b e = refl
-      or-true false b e = e
-
       by : ((q .picture .coding ≡ 2) × ZeroWords c) ⊎ ((q .picture .coding ≡ 2 → ⊥) × Repeated before c) → skipPermitted (q .picture .coding) (q .previous) k c ≡ true
       by (inl (e, z)) =
           both-true (or-true (not (eqb (q .picture .coding) 2)) (zeroVectors c) (zero-vectors z))
@@ -285,10 +278,6 @@ keeps-intra q c placed low kept =
       eight = zero-copy 8 3 (z .eight) refl;
     }
   where
-    or-true : (a b : Bool) → b ≡ true → (a || b) ≡ true
-    or-true true b e = refl
-    or-true false b e = e
-
     conversion : (q .picture .coding ≡ 1 → ⊥) ⊎ (bits (wordAt c 4) 25 25 ≡ 0) → (not (eqb (q .picture .coding) 1) || not (isSet (bits (wordAt c 4) 25 25))) ≡ true
     conversion (inl n) = ap (λ (x : Bool). not x || not (isSet (bits (wordAt c 4) 25 25))) (ne-eqb (q .picture .coding) 1 n)
     conversion (inr e) = or-true (not (eqb (q .picture .coding) 1)) _ (ap (λ (x : ℕ). not (isSet x)) e)
@@ -344,10 +333,6 @@ keeps-inter q c before k placed t kept coded previous of =
       eight = copy 8 3 (sym (kept .eight));
     }
   where
-    or-true : (a b : Bool) → b ≡ true → (a || b) ≡ true
-    or-true true b e = refl
-    or-true false b e = e
-
     not-and : (a : Bool) → not (a && false) ≡ true
     not-and true = refl
     not-and false = refl
