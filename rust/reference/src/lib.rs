@@ -21,6 +21,7 @@ pub mod decode_fields;
 pub mod decode_refused;
 pub mod decode_valid;
 pub mod generate;
+pub mod interface_cases;
 pub mod leaf;
 pub mod plain;
 pub mod program;

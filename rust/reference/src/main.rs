@@ -4,8 +4,9 @@
 //!     reference command DIR   the same for headers, commands read alone and records written alone
 //!     reference batch DIR     the same for whole batches beside their buffers' lengths, checked and decoded
 //!     reference samples DIR   small batches for the program, each with its line
+//!     reference interface DIR batches for the example in C, each with its line and its log
 
-use reference::{batch_cases, cases, leaf, samples};
+use reference::{batch_cases, cases, interface_cases, leaf, samples};
 use std::path::Path;
 use std::process::ExitCode;
 
@@ -16,8 +17,9 @@ fn main() -> ExitCode {
         ["command", dir] => cases::write(Path::new(dir)),
         ["batch", dir] => batch_cases::write(Path::new(dir)),
         ["samples", dir] => samples::write(Path::new(dir)),
+        ["interface", dir] => interface_cases::write(Path::new(dir)),
         _ => {
-            eprintln!("usage: reference leaf|command|batch|samples DIR");
+            eprintln!("usage: reference leaf|command|batch|samples|interface DIR");
             return ExitCode::from(2);
         }
     };
