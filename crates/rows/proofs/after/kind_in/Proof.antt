@@ -1,6 +1,6 @@
 use borrow.Author.Needs.{needs}
-use Rattle.rows.proofs.row.kind_in.Statement.{statement}
-use Rattle.rows.proofs.row.kind_in.Tie as tie
+use Rattle.rows.proofs.after.kind_in.Statement.{statement}
+use Rattle.rows.proofs.after.kind_in.Tie as tie
 
 is-set-requires : tie.Need-is-set-requires
 is-set-requires c κs = search needs

@@ -1,6 +1,6 @@
 use borrow.Author.Needs.{needs}
-use Rattle.rows.proofs.row.extents_next.Statement.{statement}
-use Rattle.rows.proofs.row.extents_next.Tie as tie
+use Rattle.rows.proofs.after.extents_next.Statement.{statement}
+use Rattle.rows.proofs.after.extents_next.Tie as tie
 
 reach-of-requires : tie.Need-reach-of-requires
 reach-of-requires c κs = search needs

@@ -1,6 +1,6 @@
 use borrow.Author.Needs.{needs}
-use Rattle.rows.proofs.row.previous_in.Statement.{statement}
-use Rattle.rows.proofs.row.previous_in.Tie as tie
+use Rattle.rows.proofs.after.previous_in.Statement.{statement}
+use Rattle.rows.proofs.after.previous_in.Tie as tie
 
 word-at-requires : tie.Need-word-at-requires
 word-at-requires c κs = search needs

@@ -1,7 +1,7 @@
 use Rattle.macroblocks.specs.Progressing.{stageAfter}
 use borrow.Author.Needs.{needs}
-use Rattle.rows.proofs.row.stage_next.Statement.{statement}
-use Rattle.rows.proofs.row.stage_next.Tie as tie
+use Rattle.rows.proofs.after.stage_next.Statement.{statement}
+use Rattle.rows.proofs.after.stage_next.Tie as tie
 
 is-set-requires : tie.Need-is-set-requires
 is-set-requires c κs = search needs

@@ -1,7 +1,7 @@
 use Rattle.rows.specs.Rows.{afterRow}
 use borrow.Author.Needs.{needs}
-use Rattle.rows.proofs.row.after_row.Statement.{statement}
-use Rattle.rows.proofs.row.after_row.Tie as tie
+use Rattle.rows.proofs.after.after_row.Statement.{statement}
+use Rattle.rows.proofs.after.after_row.Tie as tie
 
 word-at-requires : tie.Need-word-at-requires
 word-at-requires c κs = search needs

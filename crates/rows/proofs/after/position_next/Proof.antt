@@ -1,8 +1,8 @@
 use borrow.Author.Tests.{lt-ltb, le-ltb}
 use Rattle.macroblocks.specs.Progressing.{positionAfter}
 use borrow.Author.Needs.{needs}
-use Rattle.rows.proofs.row.position_next.Statement.{statement}
-use Rattle.rows.proofs.row.position_next.Tie as tie
+use Rattle.rows.proofs.after.position_next.Statement.{statement}
+use Rattle.rows.proofs.after.position_next.Tie as tie
 
 add-if1 : tie.Need-add-if1
 add-if1 c = search needs
