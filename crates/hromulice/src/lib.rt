@@ -1,7 +1,9 @@
-// The checker as a library for C. Each function answers what a function of the crates below answers, as numbers in structs.
+// The checker as a library for C. Each function answers what a function of the crates below answers, as numbers in structs; one
+// answers the library's version.
 mod commands;
 mod handing;
 mod summaries;
+mod version;
 mod whole;
 
 use batch::Lengths;
@@ -10,6 +12,7 @@ pub use commands::hromulice_write_command;
 pub use handing::hromulice_begin;
 pub use handing::hromulice_hand_over;
 pub use handing::hromulice_report_of;
+pub use version::hromulice_version;
 pub use whole::hromulice_check;
 pub use whole::hromulice_decode;
 
