@@ -6,7 +6,11 @@
  * here. That there is stack enough is not proved.
  *
  * A batch is a run of 32-bit words. Beside it come the lengths in bytes of the four picture buffers. An answer is a number, 0 for
- * accepted, and a place. A refusal writes nothing into the log, the record or the words that were lent.
+ * accepted, and a place. A refusal writes nothing into the log, the record or the words that were lent. hromulice_text.h has a text
+ * for each number.
+ *
+ * Check a batch where nobody changes it afterwards: copy it into memory that the builder cannot write, check that copy, and hand that
+ * copy to the engine. Words that are changed after the check were not checked.
  *
  * Pointers. The compiler cannot check these rules, so the caller keeps them:
  * - A pointer that comes with a count is to so many elements of one object. Any other pointer is to one whole hromulice_state.
@@ -20,6 +24,25 @@
 
 #include <stddef.h>
 #include <stdint.h>
+
+/* The version of this header. A major step: an earlier caller has to be changed or compiled again. A minor step: functions were added,
+ * and an earlier caller works as it is. A patch step: neither. HROMULICE_VERSION is one number, greater for a later version. */
+#define HROMULICE_VERSION_MAJOR 1
+#define HROMULICE_VERSION_MINOR 0
+#define HROMULICE_VERSION_PATCH 0
+#define HROMULICE_VERSION_TEXT "1.0.0"
+#define HROMULICE_VERSION (HROMULICE_VERSION_MAJOR * 65536u + HROMULICE_VERSION_MINOR * 256u + HROMULICE_VERSION_PATCH)
+
+/* Before a function: an answer that is dropped is a warning. */
+#if defined(__GNUC__) || defined(__clang__)
+#define HROMULICE_MUST_USE __attribute__((warn_unused_result))
+#elif defined(__cplusplus) && __cplusplus >= 201703L
+#define HROMULICE_MUST_USE [[nodiscard]]
+#elif defined(__STDC_VERSION__) && __STDC_VERSION__ >= 202311L
+#define HROMULICE_MUST_USE [[nodiscard]]
+#else
+#define HROMULICE_MUST_USE
+#endif
 
 #ifdef __cplusplus
 extern "C" {
@@ -44,6 +67,7 @@ enum {
     HROMULICE_BUFFER_SHORT = 13,   /* the lowest buffer that is too short: 0 source, 1 reconstructed, 2 forward, 3 backward reference */
     HROMULICE_ROOM_SHORT = 14,     /* the bytes or words that have to be lent */
     HROMULICE_RECORD = 15,         /* a record that is not legal: its first bad byte */
+    HROMULICE_NO_LENGTHS = 16,     /* of programs alone, no function gives it: a file of fewer than 32 bytes: the bytes read */
     HROMULICE_TOO_MANY_WORDS = 27  /* 4294967295 */
 };
 
@@ -76,21 +100,37 @@ typedef struct {
     uint64_t words[HROMULICE_STATE_WORDS];
 } hromulice_state;
 
+/* The version of the library, as HROMULICE_VERSION is that of this header. A header and a library of two versions are found out by
+ *
+ *     if (hromulice_version() != HROMULICE_VERSION)
+ *
+ * before any other call. A caller that takes later libraries too asks whether the library has the same major number and is not an
+ * earlier one:
+ *
+ *     if (hromulice_version() / 65536 != HROMULICE_VERSION_MAJOR || hromulice_version() < HROMULICE_VERSION)
+ */
+HROMULICE_MUST_USE
+uint32_t hromulice_version(void);
+
 /* Checks `count` words as a whole batch, with four buffers of these lengths. Writes nothing. */
+HROMULICE_MUST_USE
 hromulice_report hromulice_check(const uint32_t *words, size_t count, hromulice_lengths lengths);
 
 /* Checks likewise, and with number 0 writes the log: the 24-byte record of the k-th macroblock at log + 24 * k, k from 0. Bytes beyond
  * the last record stay as they are, and with any other number all of them do. 14 comes last: the batch has no other fault, and its
  * place is the bytes that the log needs, 24 for each macroblock of the picture. */
+HROMULICE_MUST_USE
 hromulice_report hromulice_decode(const uint32_t *words, size_t count, hromulice_lengths lengths, uint8_t *log, size_t bytes);
 
 /* Reads one MACROBLOCK command, its nine words from the header on; words after the ninth are not read. With number 0 the first 24
  * bytes of `record` are its record and the others stay; with any other number all of them do. The numbers are 0, 1, 2, 4, 5, 8, 11 and
  * 14, with place 24. */
+HROMULICE_MUST_USE
 hromulice_answer hromulice_read_command(const uint32_t *words, size_t count, uint8_t *record, size_t bytes);
 
 /* Writes the command of one record of 24 bytes. With number 0 the first nine words of `words` are the command and the others stay; with
  * any other number all of them do. The numbers are 0, 14, with place 9, and 15, with place 0 where `bytes` is not 24. */
+HROMULICE_MUST_USE
 hromulice_answer hromulice_write_command(const uint8_t *record, size_t bytes, uint32_t *words, size_t count);
 
 /* A batch in parts: begin, hand over its parts in order, and ask for the report after any of them. The report is what hromulice_check
@@ -104,6 +144,7 @@ void hromulice_begin(hromulice_lengths lengths, hromulice_state *state);
 void hromulice_hand_over(hromulice_state *state, const uint32_t *part, size_t count);
 
 /* The report on all words so far. The state stays as it is, so that more parts can follow. */
+HROMULICE_MUST_USE
 hromulice_report hromulice_report_of(const hromulice_state *state);
 
 #ifdef __cplusplus
