@@ -1,50 +1,32 @@
 /* Checks a batch of commands before it would go to the engine, and shows what it holds.
  *
- *     check_batch SOURCE RECONSTRUCTED FORWARD BACKWARD BATCH [LOG]
+ *     check_batch FILE [LOG]
  *
- * The first four are the lengths in bytes of the picture buffers, BATCH is a file of little-endian 32-bit words. The batch is
- * checked in parts as it is read, then whole, which gives the same answer. One that is accepted is decoded: its records are
- * written to the file LOG, or printed. Ends with 0 if the batch is accepted, 1 if it is refused, 2 if it could not be read.
+ * FILE is what `./check` reads: the lengths in bytes of the four picture buffers, 8 bytes each, then the words of the batch, 4 bytes
+ * each, all little-endian. The first line that is printed is the one of `./check`. Behind it stand the answers with their meanings: the
+ * batch is checked in parts as it is read, then whole, which gives the same answer. One that is accepted is decoded: its records are
+ * written to the file LOG, or printed. Ends with 0 if the batch is accepted, 1 if it is refused, 2 if a file could not be read or
+ * written.
  *
  *     gcc -std=c99 -I include examples/c/check_batch.c target/staticlib/libhromulice.a -o check_batch
  */
 #include <hromulice.h>
+#include <hromulice_text.h>
 #include <inttypes.h>
 #include <stdio.h>
 #include <stdlib.h>
 
-/* What the numbers mean that a batch can get; 27 apart. */
-static const char *const meanings[] = {
-    "accepted",
-    "the words run out in a command or before END",
-    "a word begins no command",
-    "a command may not come here",
-    "a bit that always has one value has the other",
-    "a field has a value that is not permitted",
-    "a macroblock is not at its position",
-    "a slice or group flag does not agree",
-    "a missing vector is not the copy that it has to be",
-    "a vector is beyond its f code",
-    "a vector points outside the picture",
-    "a macroblock may not be skipped",
-    "a word after END is not zero",
-    "a picture buffer is too short",
-    "the lent log is too short",
-};
+#define LENGTHS_BYTES 32
+#define PART_WORDS 1024
+#define RECORD_BYTES 24
 
-static const char *const buffers[] = {"source", "reconstructed", "forward", "backward"};
-
-static void print_report(const char *how, hromulice_report report)
-{
-    const char *meaning = report.number == 27 ? "there are more than 4294967295 words" : meanings[report.number];
-    printf("%s: number %d, place %" PRIu64 ": %s", how, report.number, report.place, meaning);
-    if (report.number == 13)
-        printf(" (%s)", buffers[report.place]);
-    printf("\n");
-    if (report.number == 0 || report.number == 13)
-        printf("  needed: source %" PRIu64 ", reconstructed %" PRIu64 ", forward %" PRIu64 ", backward %" PRIu64 " bytes\n",
-               report.lengths.source, report.lengths.reconstructed, report.lengths.forward, report.lengths.backward);
-}
+/* The words of a batch in memory that nobody else writes. */
+typedef struct {
+    uint32_t *words;
+    size_t count;
+    size_t room;
+    size_t leftover; /* bytes behind the last whole word */
+} batch;
 
 static void fail(const char *why)
 {
@@ -52,49 +34,103 @@ static void fail(const char *why)
     exit(2);
 }
 
-/* Reads up to `most` words. Fewer come only at the end of the file. */
-static size_t read_words(FILE *file, uint32_t *words, size_t most)
+/* The line that `./check` prints. */
+static void print_line(hromulice_report report)
 {
-    size_t count = 0;
-    uint8_t b[4];
-    while (count < most) {
-        size_t bytes = fread(b, 1, 4, file);
-        if (bytes == 0)
-            break;
-        if (bytes < 4)
-            fail("the batch ends within a word");
-        words[count++] = (uint32_t)b[0] | (uint32_t)b[1] << 8 | (uint32_t)b[2] << 16 | (uint32_t)b[3] << 24;
-    }
+    if (report.number == HROMULICE_ACCEPTED)
+        printf("accept");
+    else
+        printf("refuse %d %" PRIu64, report.number, report.place);
+    if (report.number == HROMULICE_ACCEPTED || report.number == HROMULICE_BUFFER_SHORT)
+        printf(" %" PRIu64 " %" PRIu64 " %" PRIu64 " %" PRIu64, report.lengths.source, report.lengths.reconstructed,
+               report.lengths.forward, report.lengths.backward);
+    printf("\n");
+}
+
+/* The same with its meaning. */
+static void print_report(const char *how, hromulice_report report)
+{
+    printf("%s: number %d, place %" PRIu64 ": %s", how, report.number, report.place, hromulice_meaning(report.number));
+    if (report.number == HROMULICE_BUFFER_SHORT)
+        printf(" (%s)", hromulice_buffer_name(report.place));
+    printf("\n");
+    if (report.number == HROMULICE_ACCEPTED || report.number == HROMULICE_BUFFER_SHORT)
+        printf("  needed: source %" PRIu64 ", reconstructed %" PRIu64 ", forward %" PRIu64 ", backward %" PRIu64 " bytes\n",
+               report.lengths.source, report.lengths.reconstructed, report.lengths.forward, report.lengths.backward);
+}
+
+/* Reads up to `most` bytes. Fewer come only at the end of the file. */
+static size_t read_bytes(FILE *file, uint8_t *bytes, size_t most)
+{
+    size_t count = fread(bytes, 1, most, file);
     if (ferror(file))
-        fail("the batch cannot be read");
+        fail("the file cannot be read");
     return count;
 }
 
-/* In parts: a state of fixed size and a small buffer, however long the batch is. */
-static hromulice_report check_in_parts(FILE *file, hromulice_lengths lengths)
+static uint32_t word_at(const uint8_t *b)
 {
-    hromulice_state state;
-    uint32_t part[1024];
-    size_t count;
-    hromulice_begin(lengths, &state);
-    while ((count = read_words(file, part, 1024)) > 0)
-        hromulice_hand_over(&state, part, count);
-    return hromulice_report_of(&state);
+    return (uint32_t)b[0] | (uint32_t)b[1] << 8 | (uint32_t)b[2] << 16 | (uint32_t)b[3] << 24;
 }
 
-/* The whole file in memory. The room is never of no word, so that it is no null pointer. */
-static uint32_t *read_whole(FILE *file, size_t *count)
+static uint64_t length_at(const uint8_t *b)
 {
-    size_t room = 1024;
-    uint32_t *words = (uint32_t *)malloc(room * sizeof *words);
-    *count = 0;
-    while (words != NULL && (*count += read_words(file, words + *count, room - *count)) == room) {
-        room *= 2;
-        words = (uint32_t *)realloc(words, room * sizeof *words);
-    }
-    if (words == NULL)
+    return word_at(b) | (uint64_t)word_at(b + 4) << 32;
+}
+
+static hromulice_lengths lengths_at(const uint8_t *b)
+{
+    hromulice_lengths lengths;
+    lengths.source = length_at(b);
+    lengths.reconstructed = length_at(b + 8);
+    lengths.forward = length_at(b + 16);
+    lengths.backward = length_at(b + 24);
+    return lengths;
+}
+
+/* Room for one more part. */
+static void make_room(batch *b)
+{
+    if (b->room - b->count >= PART_WORDS)
+        return;
+    b->room = 2 * b->room + PART_WORDS;
+    b->words = (uint32_t *)realloc(b->words, b->room * sizeof *b->words);
+    if (b->words == NULL)
         fail("there is no memory for the batch");
-    return words;
+}
+
+/* Reads the batch to the end of the file, and hands over each part of it as it comes. The state has one size, however long the batch is;
+ * a caller that does not decode need not keep the words. */
+static void read_batch(FILE *file, batch *b, hromulice_state *state)
+{
+    uint8_t bytes[4 * PART_WORDS];
+    size_t given, words, i;
+    do {
+        given = read_bytes(file, bytes, sizeof bytes);
+        words = given / 4;
+        make_room(b);
+        for (i = 0; i < words; i++)
+            b->words[b->count + i] = word_at(bytes + 4 * i);
+        hromulice_hand_over(state, b->words + b->count, words);
+        b->count += words;
+        b->leftover = given % 4;
+    } while (given == sizeof bytes);
+}
+
+static hromulice_report refusal(uint8_t number, uint64_t place)
+{
+    hromulice_report report = {0, 0, {0, 0, 0, 0}};
+    report.number = number;
+    report.place = place;
+    return report;
+}
+
+/* One to three bytes behind the whole words are a word that is cut off, unless something else was refused. */
+static hromulice_report of_file(hromulice_report report, const batch *b)
+{
+    if (report.number == HROMULICE_ACCEPTED && b->leftover != 0)
+        return refusal(HROMULICE_WORDS_RUN_OUT, b->count);
+    return report;
 }
 
 /* One record: 16-bit numbers are little-endian, vectors two's complement in half samples. */
@@ -110,59 +146,71 @@ static void print_record(const uint8_t *r)
            r[2] | r[3] << 8, kinds[r[6]], r[7] ? ", skipped" : "", r[8], r[11], v[0], v[1], v[2], v[3]);
 }
 
+static void write_log(const char *path, const uint8_t *log, size_t bytes)
+{
+    FILE *file = fopen(path, "wb");
+    if (file == NULL || fwrite(log, 1, bytes, file) != bytes || fclose(file) != 0)
+        fail("the log cannot be written");
+}
+
 /* An accepted batch to its records. Without a log the answer is 14, and its place the bytes that are needed. */
-static void decode(const uint32_t *words, size_t count, hromulice_lengths lengths, const char *path)
+static void decode(const batch *b, hromulice_lengths lengths, const char *path)
 {
     uint8_t none;
-    size_t bytes = (size_t)hromulice_decode(words, count, lengths, &none, 0).place, at;
+    size_t bytes = (size_t)hromulice_decode(b->words, b->count, lengths, &none, 0).place, at;
     uint8_t *log = (uint8_t *)malloc(bytes);
-    if (log == NULL || hromulice_decode(words, count, lengths, log, bytes).number != 0)
+    if (log == NULL || hromulice_decode(b->words, b->count, lengths, log, bytes).number != HROMULICE_ACCEPTED)
         fail("there is no memory for the log");
-    printf("decoded: %lu records\n", (unsigned long)(bytes / 24));
-    if (path != NULL) {
-        FILE *file = fopen(path, "wb");
-        if (file == NULL || fwrite(log, 1, bytes, file) != bytes || fclose(file) != 0)
-            fail("the log cannot be written");
-    } else {
-        for (at = 0; at < bytes; at += 24)
+    printf("decoded: %lu records\n", (unsigned long)(bytes / RECORD_BYTES));
+    if (path != NULL)
+        write_log(path, log, bytes);
+    else
+        for (at = 0; at < bytes; at += RECORD_BYTES)
             print_record(log + at);
-    }
     free(log);
 }
 
-static uint64_t length(const char *text)
+/* Checks the batch behind the lengths, and shows it. */
+static hromulice_report check(FILE *file, hromulice_lengths lengths, const char *log)
 {
-    char *end;
-    unsigned long long value = strtoull(text, &end, 10);
-    if (*text < '0' || *text > '9' || *end != '\0')
-        fail("a length is a number of bytes");
-    return value;
+    batch b = {NULL, 0, 0, 0};
+    hromulice_state state;
+    hromulice_report report;
+    hromulice_begin(lengths, &state);
+    read_batch(file, &b, &state);
+    report = of_file(hromulice_check(b.words, b.count, lengths), &b);
+    print_line(report);
+    print_report("in parts", of_file(hromulice_report_of(&state), &b));
+    print_report("whole", report);
+    if (report.number == HROMULICE_ACCEPTED)
+        decode(&b, lengths, log);
+    free(b.words);
+    return report;
 }
 
 int main(int argc, char **argv)
 {
-    hromulice_lengths lengths;
+    uint8_t lengths[LENGTHS_BYTES];
     hromulice_report report;
-    uint32_t *words;
-    size_t count;
+    size_t given;
     FILE *file;
-    if (argc < 6 || argc > 7)
-        fail("usage: check_batch SOURCE RECONSTRUCTED FORWARD BACKWARD BATCH [LOG]");
-    lengths.source = length(argv[1]);
-    lengths.reconstructed = length(argv[2]);
-    lengths.forward = length(argv[3]);
-    lengths.backward = length(argv[4]);
-    file = fopen(argv[5], "rb");
+    if (argc < 2 || argc > 3)
+        fail("usage: check_batch FILE [LOG]");
+    if (hromulice_version() != HROMULICE_VERSION)
+        fail("the library is not of version " HROMULICE_VERSION_TEXT);
+    file = fopen(argv[1], "rb");
     if (file == NULL)
-        fail("the batch cannot be opened");
-    print_report("in parts", check_in_parts(file, lengths));
-    rewind(file);
-    words = read_whole(file, &count);
+        fail("the file cannot be opened");
+    given = read_bytes(file, lengths, sizeof lengths);
+    if (given == sizeof lengths) {
+        report = check(file, lengths_at(lengths), argc == 3 ? argv[2] : NULL);
+    } else {
+        report = refusal(HROMULICE_NO_LENGTHS, given);
+        print_line(report);
+        print_report("file", report);
+    }
     fclose(file);
-    report = hromulice_check(words, count, lengths);
-    print_report("whole", report);
-    if (report.number == 0)
-        decode(words, count, lengths, argc == 7 ? argv[6] : NULL);
-    free(words);
-    return report.number != 0;
+    if (fflush(stdout) != 0 || ferror(stdout))
+        fail("standard output cannot be written");
+    return report.number == HROMULICE_ACCEPTED ? 0 : 1;
 }
