@@ -35,6 +35,7 @@ pub struct State {
 }
 
 extern "C" {
+    fn hromulice_version() -> u32;
     fn hromulice_check(words: *const u32, count: usize, lengths: Lengths) -> Report;
     fn hromulice_decode(words: *const u32, count: usize, lengths: Lengths, log: *mut u8, bytes: usize) -> Report;
     fn hromulice_read_command(words: *const u32, count: usize, record: *mut u8, bytes: usize) -> Answer;
@@ -42,6 +43,11 @@ extern "C" {
     fn hromulice_begin(lengths: Lengths, state: *mut State);
     fn hromulice_hand_over(state: *mut State, part: *const u32, count: usize);
     fn hromulice_report_of(state: *const State) -> Report;
+}
+
+pub fn version() -> u32 {
+    // SAFETY: nothing is lent.
+    unsafe { hromulice_version() }
 }
 
 pub fn check(words: &[u32], lengths: Lengths) -> Report {

@@ -8,6 +8,7 @@
 //! - [`Check`]: the same for a batch that comes in parts, with the same answer.
 //! - [`decode`]: the check, and if it accepts, a 24-byte record of each macroblock, for a log.
 //! - [`read_command`] and [`write_command`]: one MACROBLOCK command to its record, and back to the same bits.
+//! - [`meaning`]: the text of a number, also of one that a program printed. [`version`]: that of the library.
 //!
 //! ```
 //! use hromulice::{check, example, Lengths, Report};
@@ -20,6 +21,9 @@
 //!     refused => panic!("the batch is not submitted: {refused}"),
 //! }
 //! ```
+//!
+//! Check a batch where nobody changes it afterwards: copy it into memory that the builder cannot write, check that copy, and
+//! hand that copy to the engine. Words that are changed after the check were not checked.
 //!
 //! No call allocates, keeps a pointer or has global state, so calls may run on several threads at once. A refusal writes
 //! nothing into lent memory. The crate needs no standard library; the archive needs `memcpy`.
@@ -38,12 +42,17 @@ mod ffi;
 mod parts;
 mod reason;
 mod report;
+mod version;
+
+#[cfg(doctest)]
+mod dropped;
 
 pub mod example;
 
 pub use parts::Check;
-pub use reason::{Reason, Refusal};
+pub use reason::{meaning, Reason, Refusal};
 pub use report::{Buffer, Lengths, Report};
+pub use version::{version, Version, VERSION};
 
 /// The bytes of one log record.
 pub const RECORD_BYTES: usize = 24;
@@ -68,6 +77,7 @@ pub const COMMAND_WORDS: usize = 9;
 /// let refused = Refusal { reason: Reason::FieldNotPermitted, place: 31 };
 /// assert_eq!(check(&batch, needed), Report::Refused(refused));
 /// ```
+#[must_use = "only an accepted batch may go to the engine"]
 pub fn check(words: &[u32], lengths: Lengths) -> Report {
     ffi::check(words, lengths.into()).into()
 }
@@ -90,6 +100,7 @@ pub fn check(words: &[u32], lengths: Lengths) -> Report {
 /// let (kind, pattern, quantiser) = (record[6], record[8], record[11]);
 /// assert_eq!((column, row, kind, pattern, quantiser), (0, 0, 0, 63, 1));
 /// ```
+#[must_use = "the log is written only if the batch is accepted"]
 pub fn decode(words: &[u32], lengths: Lengths, log: &mut [u8]) -> Report {
     ffi::decode(words, lengths.into(), log).into()
 }
@@ -121,6 +132,7 @@ fn result_of(answer: ffi::Answer) -> Result<(), Refusal> {
 /// assert_eq!((refused.reason, refused.place), (Reason::MissingVectorNotCopy, 5));
 /// # Ok::<(), hromulice::Refusal>(())
 /// ```
+#[must_use = "the record is written only if the command is accepted"]
 pub fn read_command(words: &[u32], record: &mut [u8]) -> Result<(), Refusal> {
     result_of(ffi::read_command(words, record))
 }
@@ -137,6 +149,7 @@ pub fn read_command(words: &[u32], record: &mut [u8]) -> Result<(), Refusal> {
 /// assert_eq!(again, command);
 /// # Ok::<(), hromulice::Refusal>(())
 /// ```
+#[must_use = "the command is written only if the record is legal"]
 pub fn write_command(record: &[u8], words: &mut [u32]) -> Result<(), Refusal> {
     result_of(ffi::write_command(record, words))
 }

@@ -48,6 +48,7 @@ use core::fmt;
 ///
 /// A clone goes on by itself, for example to try two endings of one beginning.
 #[derive(Clone)]
+#[must_use = "a check answers by its report"]
 pub struct Check {
     state: ffi::State,
 }
@@ -64,6 +65,7 @@ impl Check {
     }
 
     /// The answer to all words so far.
+    #[must_use = "only an accepted batch may go to the engine"]
     pub fn report(&self) -> Report {
         ffi::report_of(&self.state).into()
     }

@@ -70,17 +70,20 @@ impl Reason {
     ];
 
     /// Document 01's number.
+    #[must_use]
     pub const fn number(self) -> u8 {
         self as u8
     }
 
     /// The reason with this number. There is none for 0, which is acceptance, nor for 16, which only the program
     /// `checker` gives.
+    #[must_use]
     pub fn from_number(number: u8) -> Option<Reason> {
         Reason::ALL.into_iter().find(|reason| reason.number() == number)
     }
 
     /// What the number means, in plain words.
+    #[must_use]
     pub const fn meaning(self) -> &'static str {
         match self {
             Reason::WordsRunOut => "the words run out in a command or before END",
@@ -109,6 +112,26 @@ impl fmt::Display for Reason {
     }
 }
 
+/// What a number of document 01's list means, in plain words: that of each [`Reason`], 0, which is acceptance, and 16, which
+/// only programs give that read a batch from a file. `None` for a number that no answer has.
+///
+/// ```
+/// use hromulice::{meaning, Reason};
+///
+/// assert_eq!(meaning(0), Some("accepted"));
+/// assert_eq!(meaning(9), Some(Reason::VectorBeyondFCode.meaning()));
+/// assert_eq!(meaning(16), Some("fewer than 32 bytes came before the batch"));
+/// assert_eq!(meaning(28), None);
+/// ```
+#[must_use]
+pub fn meaning(number: u8) -> Option<&'static str> {
+    match number {
+        0 => Some("accepted"),
+        16 => Some("fewer than 32 bytes came before the batch"),
+        _ => Reason::from_number(number).map(Reason::meaning),
+    }
+}
+
 /// A refusal: why, and where.
 ///
 /// ```
@@ -119,6 +142,7 @@ impl fmt::Display for Reason {
 /// assert_eq!(refused.to_string(), "refused 15 at byte 0: a record is not legal");
 /// ```
 #[derive(Clone, Copy, Debug, PartialEq, Eq, Hash)]
+#[must_use = "what is refused has written nothing, and may not go to the engine"]
 pub struct Refusal {
     /// Why.
     pub reason: Reason,

@@ -39,6 +39,7 @@ impl Lengths {
     pub const LONGEST: Lengths = Lengths { source: u64::MAX, reconstructed: u64::MAX, forward: u64::MAX, backward: u64::MAX };
 
     /// The length of one buffer.
+    #[must_use]
     pub const fn of(&self, buffer: Buffer) -> u64 {
         match buffer {
             Buffer::Source => self.source,
@@ -98,6 +99,7 @@ impl Buffer {
     pub const ALL: [Buffer; 4] = [Buffer::Source, Buffer::Reconstructed, Buffer::Forward, Buffer::Backward];
 
     /// Document 01's number of the buffer.
+    #[must_use]
     pub const fn number(self) -> u8 {
         self as u8
     }
@@ -127,6 +129,7 @@ impl fmt::Display for Buffer {
 /// assert_eq!((report.number(), report.place()), (13, 1));
 /// ```
 #[derive(Clone, Copy, Debug, PartialEq, Eq, Hash)]
+#[must_use = "only an accepted batch may go to the engine"]
 pub enum Report {
     /// Every rule is kept. The lengths are exactly those that the batch needs: for each buffer one more than the highest
     /// byte that is read or written, zero if none is.
@@ -151,11 +154,13 @@ pub enum Report {
 
 impl Report {
     /// Whether the batch passes.
+    #[must_use = "only an accepted batch may go to the engine"]
     pub const fn is_accepted(&self) -> bool {
         matches!(self, Report::Accepted(_))
     }
 
     /// Why and where the batch is refused, in one form for all numbers.
+    #[must_use]
     pub fn refusal(&self) -> Option<Refusal> {
         match *self {
             Report::Accepted(_) => None,
@@ -166,17 +171,20 @@ impl Report {
     }
 
     /// Document 01's number: 0 if accepted.
+    #[must_use]
     pub fn number(&self) -> u8 {
         self.refusal().map_or(0, |refusal| refusal.reason.number())
     }
 
     /// Document 01's place: 0 if accepted.
+    #[must_use]
     pub fn place(&self) -> u64 {
         self.refusal().map_or(0, |refusal| refusal.place)
     }
 
     /// The lengths that the batch needs, which are reported with 0, 13 and 14. They do not depend on the lengths that the
     /// batch was checked beside.
+    #[must_use]
     pub const fn needed(&self) -> Option<Lengths> {
         match *self {
             Report::Accepted(needed) | Report::ShortBuffer { needed, .. } | Report::ShortLog { needed, .. } => Some(needed),
