@@ -8,7 +8,8 @@
 //! - [`Check`]: the same for a batch that comes in parts, with the same answer.
 //! - [`decode`]: the check, and if it accepts, a 24-byte record of each macroblock, for a log.
 //! - [`read_command`] and [`write_command`]: one MACROBLOCK command to its record, and back to the same bits.
-//! - [`meaning`]: the text of a number, also of one that a program printed. [`version`]: that of the library.
+//! - [`meaning`]: what a number means, also one that a program printed.
+//! - [`version`]: the library's version, to be compared with the crate's, [`VERSION`].
 //!
 //! ```
 //! use hromulice::{check, example, Lengths, Report};
