@@ -1,6 +1,6 @@
 -- The turns of the loop of `walk_within`, and what `walk` does with the words beyond the limit.
 use mathlib.Core.List.{List, [], foldl, foldl-append}
-use mathlib.Core.Bool.{true, false}
+use mathlib.Core.Bool.{Bool, true, false}
 use mathlib.Core.Path.{_≡_, refl, sym, _∙_, ap}
 use Prim.Native.Nat.{ℕ, _+_, _-_, _≤_, _<_}
 use native.Mathlib.Nat.{add-assoc, add-zero}
@@ -9,14 +9,17 @@ use native.Mathlib.Omega.{arith}
 use borrow.Author.Tests.{lt-leb, eq-eqb, ne-eqb}
 use lib.ListN.{length, take, drop, length-drop, take-append-drop, drop-of-length-le}
 use lib.Seq.{drop-cons, drop-drop, length-take-le}
-use Rattle.headers.specs.Headers.{headerOf, wordsIn}
+use Rattle.headers.specs.Headers.{table, lookUp, headerOf, wordsIn}
 use Rattle.headers.specs.Words.{wordAt}
 use Rattle.headers.specs.declared.Header.{Header}
-use Rattle.headers.specs.declared.Header.the-variants.{Unknown}
+use Rattle.headers.specs.declared.Header.the-variants.{Known, Unknown}
+use Rattle.headers.specs.declared.Opcode.the-variants.{Noop}
 use Rattle.headers.proofs.HeaderLaws.{word-there}
 use Rattle.progress.specs.declared.Progress.{Progress}
 use Rattle.judging.specs.Judging.{judge}
+use Rattle.judging.proofs.SequenceLaws.{noop-passes}
 use Rattle.progress.specs.declared.Verdict.{Verdict}
+use Rattle.progress.specs.declared.Verdict.the-variants.{Next}
 use Rattle.batch.specs.Walk.{Walk, going, stopped, limit, after, step, walkOf}
 use Rattle.batch.specs.declared.Walked.the-variants.{Going}
 use Rattle.batch.proofs.WalkLaws.{stays, gather, command, full, used-within}
@@ -31,18 +34,25 @@ turn base at n p ws h v e l some m s c j =
     rw (← j, n', ← drop-drop n at ws, ← add-assoc base at n)
     (command (base + at) p e n (drop at ws) h (omega arith) some (omega arith) (ap headerOf (word-there at ws) ∙ s) c)
 
+begins-noop : (w : ℕ) → w ≡ 0 → headerOf w ≡ Known Noop 1
+unfolding headerOf lookUp table
+begins-noop w e = ap headerOf e
+
 module _ (base at : ℕ) (p : Progress) (ws : List ℕ) (l : base + length ws ≤ limit) (m : at < length ws) where
   first-word : foldl step (going (base + at) p []) (drop at ws)
       ≡ foldl step (step (going (base + at) p []) (wordAt ws at)) (drop (at + 1) ws)
   first-word = rw (drop-cons ws at 0 m) (rw add-one refl)
 
-  -- a zero word after END
-  pub turn-zero : p .stage .ended ≡ true → wordAt ws at ≡ 0
-      → foldl step (going (base + at) p []) (drop at ws) ≡ foldl step (going (base + (at + 1)) p []) (drop (at + 1) ws)
-  unfolding step
-  turn-zero e z =
-      first-word
-      ∙ simp (add-zero, lt-leb limit (base + at) (omega arith), e, eq-eqb (wordAt ws at) 0 z, ← add-assoc base at 1)
+  -- a zero word: a NOOP, or one after END
+  pub turn-zero : wordAt ws at ≡ 0 → foldl step (going (base + at) p []) (drop at ws) ≡ foldl step (going (base + (at + 1)) p []) (drop (at + 1) ws)
+  unfolding step after
+  turn-zero z = by (p .stage .ended) refl
+    where
+      by : (t : Bool) → p .stage .ended ≡ t → foldl step (going (base + at) p []) (drop at ws) ≡ foldl step (going (base + (at + 1)) p []) (drop (at + 1) ws)
+      by true e =
+          first-word
+          ∙ simp (add-zero, lt-leb limit (base + at) (omega arith), e, eq-eqb (wordAt ws at) 0 z, ← add-assoc base at 1)
+      by false e = turn base at 1 p ws (Known Noop 1) (Next p) e l (omega arith) (omega arith) (begins-noop (wordAt ws at) z) refl (noop-passes 1 p _)
 
   -- another word after END
   pub turn-behind : p .stage .ended ≡ true → (wordAt ws at ≡ 0 → ⊥)

@@ -1,6 +1,7 @@
 // Walking through the commands of a run of words.
 use crate::Walked;
 use headers::Header;
+use headers::MACROBLOCK_HEADER;
 use progress::Progress;
 use progress::Verdict;
 ghost use mathlib.Core.Path.{_≡_};
@@ -9,7 +10,8 @@ ghost use Prim.Native.Nat.{_+_, _-_, _≤_};
 ghost use lib.ListN.{length};
 ghost use Rattle.batch.specs.Walk.{limit, going, step, walkOf};
 
-// A run of words that ends within the words that are judged. Commands are judged where they stand.
+// A run of words that ends within the words that are judged. Commands are judged where they stand. A zero word is passed over at
+// once: before END it is a NOOP, and after END only zero words may follow.
 fn walk_within(progress: Progress, base: u32, words: &[u32]) -> Walked
     requires { ⌜ base + length (now words) ≤ limit ⌝ }
     ensures { λ r. ⌜ walkOf base (now (words .entry)) r ≡ foldl step (going base progress []) (now (words .entry)) ⌝ }
@@ -18,15 +20,15 @@ fn walk_within(progress: Progress, base: u32, words: &[u32]) -> Walked
     let mut at = 0;
     while at < words.len() {
         let word = words[at];
-        let place = base as u64 + at as u64;
-        if p.stage.ended {
-            if word != 0 {
-                return Walked::Stopped(12, place);
-            }
+        if word == 0 {
             at += 1;
             continue;
         }
-        if p.stage.in_group {
+        let place = base as u64 + at as u64;
+        if p.stage.ended {
+            return Walked::Stopped(12, place);
+        }
+        if word == MACROBLOCK_HEADER {
             let row = rows::judge_row(p, &words[at..]);
             let used = row.used;
             if used != 0 {

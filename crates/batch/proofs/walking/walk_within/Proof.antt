@@ -28,7 +28,7 @@ abbrev μ-loop : tie.MeasureT-loop
 
 -- the header that was read begins a command
 begun : (c : tie.At-match-came Inv-loop μ-loop)
-    → Begun (wordAt (c .before .before .before .before .before .before .before .before .args .words .now) (c .before .before .before .before .before .before .loop .at)) (c .match .header) (c .match .n)
+    → Begun (wordAt (c .before .before .before .before .before .before .before .before .before .args .words .now) (c .before .before .before .before .before .before .before .loop .at)) (c .match .header) (c .match .n)
 begun c =
     ⊎-elim
     (λ t. rw (t .3, t .4) (begun-known _ _ _ _ (c .before .read-header .ensures) (t .1 .given .1)))
@@ -36,43 +36,43 @@ begun c =
     (c .match .came)
 
 fits : (c : tie.Else5 Inv-loop μ-loop)
-    → c .before .before .before .before .before .before .before .loop .at + c .before .match .n
-    ≤ length (c .before .before .before .before .before .before .before .before .before .args .words .now)
-fits c = omega (arith, c .if5 .left, c .before .before .before .before .before .before .loop-test .taken)
+    → c .before .before .before .before .before .before .before .before .loop .at + c .before .match .n
+    ≤ length (c .before .before .before .before .before .before .before .before .before .before .args .words .now)
+fits c = omega (arith, c .if5 .left, c .before .before .before .before .before .before .before .loop-test .taken)
 
 -- what the words come to, by the verdict on that command
 judged-there : (c : tie.After-judge Inv-loop μ-loop) (v : Verdict) → c .judge .result ≡ v
     → let m = c .before .before .before .before in
-    let s = m .before .before .before .before .before .before .before .before in
-    let l = m .before .before .before .before .before .before .loop in
+    let s = m .before .before .before .before .before .before .before .before .before in
+    let l = m .before .before .before .before .before .before .before .loop in
     foldl step (going (s .args .base) (s .args .progress) []) (s .args .words .now)
     ≡ foldl step (after (s .args .base + l .at) (s .args .base + (l .at + m .match .n)) v) (drop (l .at + m .match .n) (s .args .words .now))
 judged-there c v e =
     let m = c .before .before .before .before in
-    let s = m .before .before .before .before .before .before .before .before in
-    let l = m .before .before .before .before .before .before .loop in
+    let s = m .before .before .before .before .before .before .before .before .before in
+    let l = m .before .before .before .before .before .before .before .loop in
     let b = begun m in
     l .inv .1
-    ∙ turn (s .args .base) (l .at) (m .match .n) (l .p) (s .args .words .now) (m .match .header) v (m .before .before .before .if1 .left) (s .pre) (b .some)
+    ∙ turn (s .args .base) (l .at) (m .match .n) (l .p) (s .args .words .now) (m .match .header) v (m .before .before .before .if2 .left) (s .pre) (b .some)
     (fits (c .before .before .before)) (b .is) (b .count) (sym (c .judge .ensures) ∙ e)
 
 -- what was taken of the words from there on
 taken-there : (c : tie.After-judge-row Inv-loop μ-loop)
-    → let s = c .before .before .before .before .before .before .before .before in
-    let l = c .before .before .before .before .before .before .loop in
+    → let s = c .before .before .before .before .before .before .before .before .before in
+    let l = c .before .before .before .before .before .before .before .loop in
     TakenFrom (l .p) (drop (l .at) (s .args .words .now)) (c .judge-row .result)
 taken-there c =
-    let s = c .before .before .before .before .before .before .before .before in
-    let l = c .before .before .before .before .before .before .loop in
+    let s = c .before .before .before .before .before .before .before .before .before in
+    let l = c .before .before .before .before .before .before .before .loop in
     subst (λ (x : List ℕ). TakenFrom (l .p) x (c .judge-row .result)) (part-rest (l .at) (s .args .words .now)) (c .judge-row .ensures)
 
 row-fits : (c : tie.After-judge-row Inv-loop μ-loop)
-    → c .before .before .before .before .before .before .loop .at + c .judge-row .result .used
-    ≤ length (c .before .before .before .before .before .before .before .before .args .words .now)
+    → c .before .before .before .before .before .before .before .loop .at + c .judge-row .result .used
+    ≤ length (c .before .before .before .before .before .before .before .before .before .args .words .now)
 row-fits c =
-    let l = c .before .before .before .before .before .before .loop in
-    let left = length-drop (l .at) (c .before .before .before .before .before .before .before .before .args .words .now) in
-    omega (arith, left, taken-there c .within, c .before .before .before .before .before .loop-test .taken)
+    let l = c .before .before .before .before .before .before .before .loop in
+    let left = length-drop (l .at) (c .before .before .before .before .before .before .before .before .before .args .words .now) in
+    omega (arith, left, taken-there c .within, c .before .before .before .before .before .before .loop-test .taken)
 
 loop-holds : tie.Need-loop-holds Inv-loop μ-loop
 loop-holds c = (search needs, simp add-zero)
@@ -83,15 +83,6 @@ mul-word c = search needs
 shared-slice-read-word : tie.Need-shared-slice-read-word Inv-loop μ-loop
 shared-slice-read-word c = search needs
 
-add-place : tie.Need-add-place Inv-loop μ-loop
-add-place c = search needs
-
-returns : tie.Need-returns Inv-loop μ-loop
-returns c =
-    let s = c .before .before .before .before .before .before in
-    let l = c .before .before .before .before .loop in
-    sym (l .inv .1 ∙ turn-behind (s .args .base) (l .at) (l .p) (s .args .words .now) (s .pre) (c .before .before .before .loop-test .taken) (c .before .if1 .taken) (c .if2 .taken))
-
 add-at : tie.Need-add-at Inv-loop μ-loop
 add-at c = search needs
 
@@ -100,9 +91,18 @@ loop-less c = search needs
 
 loop-again : tie.Need-loop-again Inv-loop μ-loop
 loop-again c =
+    let s = c .before .before .before .before .before in
+    let l = c .before .before .before .loop in
+    (search needs, l .inv .1 ∙ turn-zero (s .args .base) (l .at) (l .p) (s .args .words .now) (s .pre) (c .before .before .loop-test .taken) (c .if1 .taken))
+
+add-place : tie.Need-add-place Inv-loop μ-loop
+add-place c = search needs
+
+returns : tie.Need-returns Inv-loop μ-loop
+returns c =
     let s = c .before .before .before .before .before .before in
     let l = c .before .before .before .before .loop in
-    (search needs, l .inv .1 ∙ turn-zero (s .args .base) (l .at) (l .p) (s .args .words .now) (s .pre) (c .before .before .before .loop-test .taken) (c .before .if1 .taken) (c .if2 .left))
+    sym (l .inv .1 ∙ turn-behind (s .args .base) (l .at) (l .p) (s .args .words .now) (s .pre) (c .before .before .before .loop-test .taken) (c .if2 .taken) (c .before .if1 .left))
 
 mul-judge-row : tie.Need-mul-judge-row Inv-loop μ-loop
 mul-judge-row c = search needs
@@ -127,11 +127,11 @@ loop-less-2 c = omega (arith, row-fits (c .before .before), c .before .if4 .take
 
 loop-again-2 : tie.Need-loop-again-2 Inv-loop μ-loop
 loop-again-2 c =
-    let s = c .before .before .before .before .before .before .before .before .before .before in
-    let l = c .before .before .before .before .before .before .before .before .loop in (
+    let s = c .before .before .before .before .before .before .before .before .before .before .before in
+    let l = c .before .before .before .before .before .before .before .before .before .loop in (
       row-fits (c .before .before),
       l .inv .1 ∙ turn-row (s .args .base) (l .at) (l .p) (s .args .words .now) (c .before .before .judge-row .result)
-          (c .before .before .before .before .before .if1 .left) (s .pre) (l .inv .0) (taken-there (c .before .before)),
+          (c .before .before .before .before .before .if2 .left) (s .pre) (l .inv .0) (taken-there (c .before .before)),
     )
 
 read-header-requires : tie.Need-read-header-requires Inv-loop μ-loop
@@ -148,10 +148,10 @@ enum-told c = search needs
 
 returns-2 : tie.Need-returns-2 Inv-loop μ-loop
 returns-2 c =
-    let s = c .before .before .before .before .before .before .before .before .before in
-    let l = c .before .before .before .before .before .before .before .loop in
+    let s = c .before .before .before .before .before .before .before .before .before .before in
+    let l = c .before .before .before .before .before .before .before .before .loop in
     sym (l .inv .1 ∙ turn-unknown (s .args .base) (l .at) (l .p) (s .args .words .now) (s .pre)
-    (c .before .before .before .before .before .before .loop-test .taken) (c .before .before .before .before .if1 .left)
+    (c .before .before .before .before .before .before .before .loop-test .taken) (c .before .before .before .before .if2 .left)
     (sym (c .before .before .read-header .ensures) ∙ c .enum-told .given .1))
 
 sub-if5 : tie.Need-sub-if5 Inv-loop μ-loop
@@ -159,11 +159,11 @@ sub-if5 c = search needs
 
 returns-3 : tie.Need-returns-3 Inv-loop μ-loop
 returns-3 c =
-    let s = c .before .before .before .before .before .before .before .before .before in
-    let l = c .before .before .before .before .before .before .before .loop in
+    let s = c .before .before .before .before .before .before .before .before .before .before in
+    let l = c .before .before .before .before .before .before .before .before .loop in
     let b = begun (c .before) in
     sym (l .inv .1 ∙ turn-short (s .args .base) (l .at) (l .p) (s .args .words .now) (s .pre)
-    (c .before .before .before .before .before .before .loop-test .taken) (c .before .match .header) (c .before .before .before .before .if1 .left)
+    (c .before .before .before .before .before .before .before .loop-test .taken) (c .before .match .header) (c .before .before .before .before .if2 .left)
     (b .is) (rw (← b .count) (c .if5 .taken)))
 
 add-end : tie.Need-add-end Inv-loop μ-loop
@@ -200,18 +200,18 @@ loop-again-3 c =
 enum-known-number : tie.Need-enum-known-number Inv-loop μ-loop
 enum-known-number c = search needs
 
-add-t34 : tie.Need-add-t34 Inv-loop μ-loop
-add-t34 c =
+add-t33 : tie.Need-add-t33 Inv-loop μ-loop
+add-t33 c =
     let m = c .before .before .before .before .before .before .before in
     let near = stops-within _ _ _ _ _ (sym (c .before .before .before .judge .ensures) ∙ c .before .number .given .1) in
-    omega (arith, near .2, m .before .before .before .before .before .before .before .before .pre, m .before .before .before .before .before .loop-test .taken)
+    omega (arith, near .2, m .before .before .before .before .before .before .before .before .before .pre, m .before .before .before .before .before .before .loop-test .taken)
 
 returns-4 : tie.Need-returns-4 Inv-loop μ-loop
 unfolding after
 returns-4 c =
     let m = c .before .before .before .before .before .before .before in
-    let s = m .before .before .before .before .before .before .before .before in
-    let l = m .before .before .before .before .before .before .loop in
+    let s = m .before .before .before .before .before .before .before .before .before in
+    let l = m .before .before .before .before .before .before .before .loop in
     sym (judged-there (c .before .before .before) _ (c .before .number .given .1) ∙ stays _ _ (drop (l .at + m .match .n) (s .args .words .now)))
 
 returns-5 : tie.Need-returns-5 Inv-loop μ-loop
@@ -229,11 +229,11 @@ walk-within-spec =
     loop-holds
     mul-word
     shared-slice-read-word
-    add-place
-    returns
     add-at
     loop-less
     loop-again
+    add-place
+    returns
     mul-judge-row
     sub-judge-row
     part-judge-row-start
@@ -259,6 +259,6 @@ walk-within-spec =
     loop-less-3
     loop-again-3
     enum-known-number
-    add-t34
+    add-t33
     returns-4
     returns-5)
