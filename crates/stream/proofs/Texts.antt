@@ -1,14 +1,14 @@
 -- Numbers in decimal, and texts behind each other.
 use mathlib.Core.Bool.{Bool, true, false, cond}
-use mathlib.Core.List.{List, [], _∷_, _++_, foldl, foldl-append, append-nil, append-assoc}
-use mathlib.Core.Path.{_≡_, refl, sym, _∙_, ap}
+use mathlib.Core.List.{List, [], _∷_, _++_, foldl, foldl-append, append-assoc}
+use mathlib.Core.Path.{_≡_, refl, sym, _∙_, ap, subst}
 use Prim.Native.Nat.{ℕ, zero, suc, _+_, _*_, _-_, _/_, _%_, _^_, _≤_, _<_}
 use native.Mathlib.Nat.{pow-zero, pow-suc}
 use native.Mathlib.Omega.{arith}
 use borrow.Author.Tests.{lt-ltb, le-ltb, ltb-false}
 use lib.Dec.{ltb}
-use lib.ListN.{length, getD, drop, set, replicate, length-set}
-use lib.Seq.{drop-cons, drop-set-lt, getD-set-same, append-snoc}
+use lib.ListN.{length, getD, length-append}
+use Rattle.io.specs.Digits as kit
 use Rattle.stream.specs.Text.{digit, digits, decimal, spaced}
 
 pub spaced-append : (xs ys : List ℕ) → spaced (xs ++ ys) ≡ spaced xs ++ spaced ys
@@ -62,43 +62,41 @@ pub no-zero-first : (n : ℕ) → 1 ≤ n → n < 2 ^ 64 → 48 < getD (decimal 
 unfolding decimal
 no-zero-first n some h = first-digit 20 n some (omega arith)
 
--- The digits behind the first `i` places of a text of 20 have been written, and `rest` is left of the number.
-abbrev pub Spelled : ℕ → List ℕ → ℕ → ℕ → Type 0
-Spelled n text i rest = (1 ≤ i) × ((i ≤ 20) × ((length text ≡ 20) × ((rest < 10 ^ i) × (digits i rest ++ drop i text ≡ decimal n))))
+-- there are at most twenty digits
+digits-few : (k n : ℕ) → length (digits k n) ≤ k
+digits-few zero n = omega arith
+digits-few (suc k) n = by (ltb n 10) (digits-few k (n / 10))
+  where
+    by : (t : Bool) → length (digits k (n / 10)) ≤ k → length (cond t (digit n ∷ []) (digits k (n / 10) ++ (digit (n % 10) ∷ []))) ≤ suc k
+    by true up = omega arith
+    by false up = omega (arith, length-append (digits k (n / 10)) (digit (n % 10) ∷ []))
 
-pub nothing-spelled : (n : ℕ) → n < 2 ^ 64 → Spelled n (replicate 20 0) 20 n
+pub decimal-few : (n : ℕ) → length (decimal n) ≤ 20
 unfolding decimal
-nothing-spelled n h = (omega arith, (omega arith, (refl, (omega arith, append-nil (digits 20 n)))))
+decimal-few n = digits-few 20 n
 
-written : (text : List ℕ) (k d : ℕ) → k < length text → drop k (set text k d) ≡ d ∷ drop (suc k) text
-written text k d h =
-    let len = length-set text k d in
-    drop-cons (set text k d) k 0 (omega arith)
-    ∙ ap (λ (x : ℕ). x ∷ drop (suc k) (set text k d)) (getD-set-same text k d 0 h)
-    ∙ ap (λ (r : List ℕ). d ∷ r) (drop-set-lt (suc k) text k d (omega arith))
+power-some : (i : ℕ) → 1 ≤ 10 ^ i
+power-some zero = omega (arith, pow-zero 10)
+power-some (suc i) = omega (arith, pow-suc 10 i, power-some i)
 
-some-left : (k rest : ℕ) → 10 ≤ rest → rest < 10 ^ suc k → 1 ≤ k
-some-left zero rest more h = absurd (omega arith)
-some-left (suc k) rest more h = omega arith
+one-less : (j : ℕ) → suc j - 1 ≡ j
+one-less j = omega arith
 
-module _ (n : ℕ) (text : List ℕ) (k rest : ℕ) (so : Spelled n text (suc k) rest) where
-  pub next-digit : 10 ≤ rest → Spelled n (set text k (48 + rest % 10)) k (rest / 10)
-  next-digit more =
-      let d = 48 + rest % 10 in
-      let few = so .1 .0 in
-      let len = so .1 .1 .0 in
-      let fits = so .1 .1 .1 .0 in
-      let here : digits (suc k) rest ≡ digits k (rest / 10) ++ (d ∷ []) = simp (le-ltb rest 10 more) in
-      let spelled =
-      ap (λ (r : List ℕ). digits k (rest / 10) ++ r) (written text k d (omega arith))
-      ∙ sym (append-snoc (digits k (rest / 10)) d (drop (suc k) text))
-      ∙ ap (λ (r : List ℕ). r ++ drop (suc k) text) (sym here)
-      ∙ so .1 .1 .1 .1 in
-      (some-left k rest more fits, (omega arith, (length-set text k d ∙ len, (omega (arith, pow-suc 10 k), spelled))))
+-- The kit's digits of a number, the fewest that hold it, are its decimal.
+fewest-digits : (j k n : ℕ) → n < 10 ^ suc j → (1 < suc j → 10 ^ j ≤ n) → n < 10 ^ suc k → kit.digits 10 (suc j) n ≡ digits (suc k) n
+fewest-digits zero k n fits few h =
+    let same : n % 10 ≡ n = omega arith in
+    simp (same, lt-ltb n 10 fits)
+fewest-digits (suc i) zero n fits few h = absurd (omega (arith, few (omega arith), pow-suc 10 i, power-some i))
+fewest-digits (suc i) (suc k) n fits few h =
+    let many : 10 ^ suc i ≤ n = few (omega arith) in
+    let ten : 10 ≤ n = omega (arith, pow-suc 10 i, power-some i) in
+    let last : n % 10 < 10 = omega arith in
+    simp (lt-ltb (n % 10) 10 last, le-ltb n 10 ten)
+    (ap (λ (r : List ℕ). r ++ (digit (n % 10) ∷ []))
+    (fewest-digits i k (n / 10) (omega (arith, pow-suc 10 (suc i))) (λ _. omega (arith, pow-suc 10 i)) (omega (arith, pow-suc 10 (suc k)))))
 
-  pub last-digit : rest < 10 → drop k (set text k (48 + rest)) ≡ decimal n
-  last-digit few =
-      let len = so .1 .1 .0 in
-      let low = so .1 .0 in
-      let here : digits (suc k) rest ≡ (48 + rest) ∷ [] = simp (lt-ltb rest 10 few) in
-      written text k (48 + rest) (omega arith) ∙ ap (λ (r : List ℕ). r ++ drop (suc k) text) (sym here) ∙ so .1 .1 .1 .1
+pub kit-decimal : (n r : ℕ) → n < 2 ^ 64 → kit.Fewest 10 1 n r → kit.digits 10 r n ≡ decimal n
+unfolding decimal
+kit-decimal n zero h f = absurd (omega (arith, f .0))
+kit-decimal n (suc j) h f = fewest-digits j 19 n (f .1) (λ more. subst (λ (m : ℕ). 10 ^ m ≤ n) (one-less j) (f .2 more)) (omega arith)

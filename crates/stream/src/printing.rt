@@ -23,22 +23,14 @@ fn put(line: Line, text: &[u8]) -> Line
     Line { bytes, len }
 }
 
-// A number in decimal. Its digits are made from the last to the first.
+// A number in decimal.
 fn put_decimal(line: Line, n: u64) -> Line
     requires { ⌜ line .len + 20 ≤ 256 ⌝ }
     ensures { λ r. ⌜ (bytesIn r ≡ bytesIn line ++ decimal n) × (r .len ≤ line .len + 20) ⌝ }
 {
     let mut text = [0u8; 20];
-    let mut i = 20;
-    let mut rest = n;
-    while 10 <= rest {
-        i -= 1;
-        text[i] = 48 + (rest % 10) as u8;
-        rest /= 10;
-    }
-    let from = i - 1;
-    text[from] = 48 + rest as u8;
-    put(line, &text[from..])
+    let count = io::decimal(n, &mut text);
+    put(line, &text[..count])
 }
 
 // A number with a space before it.
