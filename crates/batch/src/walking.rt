@@ -29,12 +29,14 @@ fn walk_within(progress: Progress, base: u32, words: &[u32]) -> Walked
             return Walked::Stopped(12, place);
         }
         if word == MACROBLOCK_HEADER {
-            let row = rows::judge_row(p, &words[at..]);
-            let used = row.used;
-            if used != 0 {
-                p = row.progress;
-                at += used;
-                continue;
+            if p.stage.in_group {
+                let row = rows::judge_row(p, &words[at..]);
+                let used = row.used;
+                if used != 0 {
+                    p = row.progress;
+                    at += used;
+                    continue;
+                }
             }
         }
         let header = headers::read_header(word);
@@ -51,7 +53,8 @@ fn walk_within(progress: Progress, base: u32, words: &[u32]) -> Walked
                 at = end;
             }
             Verdict::Stop(number, word) => {
-                return Walked::Stopped(number, place + word);
+                let fault = place + word;
+                return Walked::Stopped(number, fault);
             }
         }
     }

@@ -35,10 +35,10 @@ begun c =
     (λ t. rw (t .3, t .4) (begun-carried _ _ _ (c .before .read-header .ensures) (t .1 .given .1)))
     (c .match .came)
 
-fits : (c : tie.Else5 Inv-loop μ-loop)
+fits : (c : tie.Else6 Inv-loop μ-loop)
     → c .before .before .before .before .before .before .before .before .loop .at + c .before .match .n
     ≤ length (c .before .before .before .before .before .before .before .before .before .before .args .words .now)
-fits c = omega (arith, c .if5 .left, c .before .before .before .before .before .before .before .loop-test .taken)
+fits c = omega (arith, c .if6 .left, c .before .before .before .before .before .before .before .loop-test .taken)
 
 -- what the words come to, by the verdict on that command
 judged-there : (c : tie.After-judge Inv-loop μ-loop) (v : Verdict) → c .judge .result ≡ v
@@ -58,21 +58,21 @@ judged-there c v e =
 
 -- what was taken of the words from there on
 taken-there : (c : tie.After-judge-row Inv-loop μ-loop)
-    → let s = c .before .before .before .before .before .before .before .before .before in
-    let l = c .before .before .before .before .before .before .before .loop in
+    → let s = c .before .before .before .before .before .before .before .before .before .before in
+    let l = c .before .before .before .before .before .before .before .before .loop in
     TakenFrom (l .p) (drop (l .at) (s .args .words .now)) (c .judge-row .result)
 taken-there c =
-    let s = c .before .before .before .before .before .before .before .before .before in
-    let l = c .before .before .before .before .before .before .before .loop in
+    let s = c .before .before .before .before .before .before .before .before .before .before in
+    let l = c .before .before .before .before .before .before .before .before .loop in
     subst (λ (x : List ℕ). TakenFrom (l .p) x (c .judge-row .result)) (part-rest (l .at) (s .args .words .now)) (c .judge-row .ensures)
 
 row-fits : (c : tie.After-judge-row Inv-loop μ-loop)
-    → c .before .before .before .before .before .before .before .loop .at + c .judge-row .result .used
-    ≤ length (c .before .before .before .before .before .before .before .before .before .args .words .now)
+    → c .before .before .before .before .before .before .before .before .loop .at + c .judge-row .result .used
+    ≤ length (c .before .before .before .before .before .before .before .before .before .before .args .words .now)
 row-fits c =
-    let l = c .before .before .before .before .before .before .before .loop in
-    let left = length-drop (l .at) (c .before .before .before .before .before .before .before .before .before .args .words .now) in
-    omega (arith, left, taken-there c .within, c .before .before .before .before .before .before .loop-test .taken)
+    let l = c .before .before .before .before .before .before .before .before .loop in
+    let left = length-drop (l .at) (c .before .before .before .before .before .before .before .before .before .before .args .words .now) in
+    omega (arith, left, taken-there c .within, c .before .before .before .before .before .before .before .loop-test .taken)
 
 loop-holds : tie.Need-loop-holds Inv-loop μ-loop
 loop-holds c = (search needs, simp add-zero)
@@ -123,15 +123,15 @@ add-at-2 : tie.Need-add-at-2 Inv-loop μ-loop
 add-at-2 c = omega (arith, row-fits (c .before .before))
 
 loop-less-2 : tie.Need-loop-less-2 Inv-loop μ-loop
-loop-less-2 c = omega (arith, row-fits (c .before .before), c .before .if4 .taken)
+loop-less-2 c = omega (arith, row-fits (c .before .before), c .before .if5 .taken)
 
 loop-again-2 : tie.Need-loop-again-2 Inv-loop μ-loop
 loop-again-2 c =
-    let s = c .before .before .before .before .before .before .before .before .before .before .before in
-    let l = c .before .before .before .before .before .before .before .before .before .loop in (
+    let s = c .before .before .before .before .before .before .before .before .before .before .before .before in
+    let l = c .before .before .before .before .before .before .before .before .before .before .loop in (
       row-fits (c .before .before),
       l .inv .1 ∙ turn-row (s .args .base) (l .at) (l .p) (s .args .words .now) (c .before .before .judge-row .result)
-          (c .before .before .before .before .before .if2 .left) (s .pre) (l .inv .0) (taken-there (c .before .before)),
+          (c .before .before .before .before .before .before .if2 .left) (s .pre) (l .inv .0) (taken-there (c .before .before)),
     )
 
 read-header-requires : tie.Need-read-header-requires Inv-loop μ-loop
@@ -154,8 +154,8 @@ returns-2 c =
     (c .before .before .before .before .before .before .before .loop-test .taken) (c .before .before .before .before .if2 .left)
     (sym (c .before .before .read-header .ensures) ∙ c .enum-told .given .1))
 
-sub-if5 : tie.Need-sub-if5 Inv-loop μ-loop
-sub-if5 c = search needs
+sub-if6 : tie.Need-sub-if6 Inv-loop μ-loop
+sub-if6 c = search needs
 
 returns-3 : tie.Need-returns-3 Inv-loop μ-loop
 returns-3 c =
@@ -164,7 +164,7 @@ returns-3 c =
     let b = begun (c .before) in
     sym (l .inv .1 ∙ turn-short (s .args .base) (l .at) (l .p) (s .args .words .now) (s .pre)
     (c .before .before .before .before .before .before .before .loop-test .taken) (c .before .match .header) (c .before .before .before .before .if2 .left)
-    (b .is) (rw (← b .count) (c .if5 .taken)))
+    (b .is) (rw (← b .count) (c .if6 .taken)))
 
 add-end : tie.Need-add-end Inv-loop μ-loop
 add-end c = search needs
@@ -190,7 +190,7 @@ enum-known-next c = search needs
 loop-less-3 : tie.Need-loop-less-3 Inv-loop μ-loop
 loop-less-3 c =
     let m = c .before .before .before .before .before .before .before in
-    omega (arith, begun m .some, c .before .before .before .before .before .before .if5 .left)
+    omega (arith, begun m .some, c .before .before .before .before .before .before .if6 .left)
 
 loop-again-3 : tie.Need-loop-again-3 Inv-loop μ-loop
 unfolding after
@@ -200,8 +200,8 @@ loop-again-3 c =
 enum-known-number : tie.Need-enum-known-number Inv-loop μ-loop
 enum-known-number c = search needs
 
-add-t33 : tie.Need-add-t33 Inv-loop μ-loop
-add-t33 c =
+add-fault : tie.Need-add-fault Inv-loop μ-loop
+add-fault c =
     let m = c .before .before .before .before .before .before .before in
     let near = stops-within _ _ _ _ _ (sym (c .before .before .before .judge .ensures) ∙ c .before .number .given .1) in
     omega (arith, near .2, m .before .before .before .before .before .before .before .before .before .pre, m .before .before .before .before .before .before .loop-test .taken)
@@ -247,7 +247,7 @@ walk-within-spec =
     enum-known-header-2
     enum-told
     returns-2
-    sub-if5
+    sub-if6
     returns-3
     add-end
     mul-judge
@@ -259,6 +259,6 @@ walk-within-spec =
     loop-less-3
     loop-again-3
     enum-known-number
-    add-t33
+    add-fault
     returns-4
     returns-5)
