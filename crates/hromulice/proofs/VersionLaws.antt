@@ -1,38 +1,19 @@
 -- A version's number stands for the three numbers of the version, and is ordered as they are.
 use mathlib.Core.Bool.{Bool, true, false, cond}
 use mathlib.Core.Path.{_≡_, refl}
-use Prim.Native.Nat.{ℕ, _/_, _%_, _^_, _≤_, _<_}
+use Prim.Native.Nat.{ℕ, _≤_, _<_}
 use native.Mathlib.Omega.{arith}
 use lib.Dec.{eqb, ltb}
 use borrow.Author.Tests.{ltb-true, ltb-false, lt-ltb, le-ltb, eqb-true, eqb-false}
-use Rattle.hromulice.specs.Version.{Version, libraryVersion, versionNumber}
+use Rattle.hromulice.specs.Version.{Version, libraryVersion, versionNumber, Fits, ReadBack, earlier}
 
--- The three numbers have 16, 8 and 8 bits.
-pub record Fits (v : Version) : Type 0 where
-  pub major : v .major < 65536
-  pub minor : v .minor < 256
-  pub patch : v .patch < 256
-
--- A number of 32 bits from which the three numbers are read back.
-pub record ReadBack (v : Version) (n : ℕ) : Type 0 where
-  pub word : n < 2 ^ 32
-  pub major : n / 65536 ≡ v .major
-  pub minor : n / 256 % 256 ≡ v .minor
-  pub patch : n % 256 ≡ v .patch
-
+-- The number stands for the version.
 pub version-back : (v : Version) → Fits v → ReadBack v (versionNumber v)
 version-back v f = record { word = omega arith; major = omega arith; minor = omega arith; patch = omega arith }
 
 -- What the library answers is such a number.
 pub library-version-back : ReadBack libraryVersion (versionNumber libraryVersion)
 library-version-back = version-back libraryVersion (record { major = omega arith; minor = omega arith; patch = omega arith })
-
--- An earlier version: the first number that differs is less.
-abbrev pub earlier : Version → Version → Bool
-earlier v w =
-    cond (eqb (v .major) (w .major))
-    (cond (eqb (v .minor) (w .minor)) (ltb (v .patch) (w .patch)) (ltb (v .minor) (w .minor)))
-    (ltb (v .major) (w .major))
 
 -- two tests that agree
 alike : (m n a b : ℕ) → (a < b → m < n) → (b ≤ a → n ≤ m) → ltb m n ≡ ltb a b

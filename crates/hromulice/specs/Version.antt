@@ -1,5 +1,8 @@
 -- The version of the library.
-use Prim.Native.Nat.{ℕ, _+_, _*_}
+use Prim.Native.Nat.{ℕ, _+_, _*_, _/_, _%_, _^_, _<_}
+use mathlib.Core.Bool.{Bool, cond}
+use mathlib.Core.Path.{_≡_}
+use lib.Dec.{eqb, ltb}
 
 -- A major step: an earlier caller has to be changed or compiled again. A minor step: functions were added, and an earlier caller works
 -- as it is. A patch step: neither.
@@ -15,3 +18,23 @@ libraryVersion = record { major = 1; minor = 0; patch = 0 }
 -- A version as one number: major in bits 31:16, minor in 15:8, patch in 7:0.
 abbrev pub versionNumber : Version → ℕ
 versionNumber v = v .major * 65536 + v .minor * 256 + v .patch
+
+-- The three numbers have 16, 8 and 8 bits.
+pub record Fits (v : Version) : Type 0 where
+  pub major : v .major < 65536
+  pub minor : v .minor < 256
+  pub patch : v .patch < 256
+
+-- A number of 32 bits from which the three numbers are read back.
+pub record ReadBack (v : Version) (n : ℕ) : Type 0 where
+  pub word : n < 2 ^ 32
+  pub major : n / 65536 ≡ v .major
+  pub minor : n / 256 % 256 ≡ v .minor
+  pub patch : n % 256 ≡ v .patch
+
+-- An earlier version: the first number that differs is less.
+abbrev pub earlier : Version → Version → Bool
+earlier v w =
+    cond (eqb (v .major) (w .major))
+    (cond (eqb (v .minor) (w .minor)) (ltb (v .patch) (w .patch)) (ltb (v .minor) (w .minor)))
+    (ltb (v .major) (w .major))
