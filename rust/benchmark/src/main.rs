@@ -5,14 +5,9 @@
 //!     benchmark program CHECKER DIR    the program CHECKER, with inputs stored in DIR
 //!     benchmark repeat NAME TYPE N     N calls on a 256 by 175 picture of type I, P or B, for counting instructions
 
-mod contenders;
-mod pictures;
-mod program;
-mod tables;
-mod timing;
-
-use contenders::CONTENDERS;
-use pictures::Picture;
+use benchmark::contenders::CONTENDERS;
+use benchmark::pictures::Picture;
+use benchmark::{program, tables};
 use std::path::Path;
 use std::process::ExitCode;
 

@@ -1,0 +1,205 @@
+//! The checker in C gives the second program's answers: number, place and the four lengths.
+
+use benchmark::batch_check::{check, check_up_to};
+use benchmark::pictures::Picture;
+use reference::batch::{moved, rows, Frame};
+use reference::batch_cases::{made_by, needed};
+use reference::batch_damage::damage;
+use reference::batch_document::{document, p1};
+use reference::batch_faults::faults;
+use reference::batch_rules::rule_table;
+use reference::batch_valid::pick;
+use reference::check::{beside, judge, Judged, Report};
+use reference::command::COMMANDS;
+use reference::command_cases::plain;
+use reference::generate::batches::Batches;
+use reference::generate::draft::Draft;
+use reference::leaf::word_of;
+use reference::random::Random;
+use reference::valid_cases::valid;
+use std::collections::BTreeMap;
+
+/// Holds the answer against the second program's, and gives its number.
+fn same(words: &[u32], buffers: [u64; 4], judged: Judged) -> u8 {
+    let due = beside(judged, buffers);
+    assert_eq!(check(words, buffers), due, "{words:x?} {buffers:?}");
+    due.number
+}
+
+/// The same beside lengths as they are needed, a byte more and a byte less in each buffer, none, and the longest.
+fn same_beside_all(words: &[u32]) -> u8 {
+    let judged = judge(words);
+    let exact = judged.unwrap_or([2960; 4]);
+    for n in 0..4 {
+        let with = |length: u64| std::array::from_fn(|m| if m == n { length } else { exact[m] });
+        same(words, with(exact[n].saturating_sub(1)), judged);
+        same(words, with(exact[n] + 1), judged);
+    }
+    same(words, [0; 4], judged);
+    same(words, [u64::MAX; 4], judged);
+    same(words, exact, judged)
+}
+
+/// "P1 to P13", 21 batches of them.
+#[test]
+fn document_01() {
+    let cases = made_by(&[document]);
+    assert_eq!(cases.len(), 21);
+    for case in cases {
+        assert_eq!(check(&case.words, case.buffers), case.report);
+        same_beside_all(&case.words);
+    }
+}
+
+/// What is stored as cases for the proved checker.
+#[test]
+fn cases() {
+    let cases = made_by(&[document, rule_table, valid, damage, faults]);
+    assert!(cases.len() > 3500, "{}", cases.len());
+    for case in cases {
+        assert_eq!(check(&case.words, case.buffers), case.report, "{:x?} {:?}", case.words, case.buffers);
+    }
+}
+
+/// Generated batches of every sort: all numbers from 0 to 13, and each rule of the table broken alone with its number given.
+#[test]
+fn generated_batches() {
+    let (mut r, batches) = (Random::new(71), Batches::default());
+    let mut numbers: BTreeMap<u8, u32> = BTreeMap::new();
+    let mut alone = vec![0; batches.breaches.len()];
+    for _ in 0..20_000 {
+        let batch = batches.next(&mut r);
+        let number = same(&batch.words, batch.buffers, batch.judged);
+        *numbers.entry(number).or_default() += 1;
+        if let [rule] = batch.broken[..] {
+            alone[rule] += u32::from(number == batches.breaches[rule].number);
+        }
+        if batch.words.len() < 2000 {
+            same_beside_all(&batch.words);
+        }
+    }
+    assert!(numbers.keys().copied().eq(0..=13), "{numbers:?}");
+    for (breach, count) in batches.breaches.iter().zip(alone) {
+        assert!(count >= 3, "{}: {count}", breach.rule);
+    }
+}
+
+/// A value that means something somewhere in a batch, or is next to one.
+fn interesting(r: &mut Random, words: &[u32], at: usize) -> u32 {
+    let word = words[at];
+    match r.within(0, 9) {
+        0 => pick(r, &[0, 1, u32::MAX, 1 << 31, 1 << 30, 1 << 26, 1 << 24, 4, 0x1a00, 0x2000]),
+        1 => pick(r, &COMMANDS).0,
+        2 => pick(r, &COMMANDS).0 ^ 1 << r.within(0, 31),
+        3 => word.rotate_left(16),
+        4 => word.wrapping_add(pick(r, &[1, 0x1_0000, u32::MAX, 0xffff_0000])),
+        5 => pick(r, words),
+        6 => word_of(pick(r, &[0, 31, 32, 33, -1, -32, 4095, 4096, -4096, -32768]), pick(r, &[0, 1, 15, 16, -1, 32767])),
+        7 => word ^ pick(r, &[0x100, 0x200, 0x300, 0x2000, 0x3a00, 4, 0x204]),
+        _ => word ^ 1 << r.within(0, 31),
+    }
+}
+
+/// Batches that keep every rule, with one to three words changed; some of the time the same change in words that are copies.
+#[test]
+fn changed_words() {
+    let mut r = Random::new(72);
+    let mut numbers: BTreeMap<u8, u32> = BTreeMap::new();
+    for _ in 0..20_000 {
+        let (columns, rows) = (r.within(1, 4) as u32, r.within(1, 3) as u32);
+        let mut words = Draft::of_shape(&mut r, columns, rows).batch.words();
+        for _ in 0..r.within(1, 3) {
+            let at = r.within(0, words.len() as i64 - 1) as usize;
+            let (old, new) = (words[at], interesting(&mut r, &words, at));
+            let last = if r.within(0, 1) == 0 { at } else { (at + 3).min(words.len() - 1) };
+            words[at..=last].iter_mut().filter(|word| **word == old).for_each(|word| *word = new);
+        }
+        let judged = judge(&words);
+        *numbers.entry(same(&words, judged.unwrap_or([0; 4]), judged)).or_default() += 1;
+    }
+    assert!(numbers.keys().copied().eq(0..=12) && numbers.values().all(|count| *count >= 10), "{numbers:?}");
+}
+
+/// Every prefix of batches with NOOPs, carried commands, several groups and words after END.
+#[test]
+fn prefixes() {
+    let mut r = Random::new(73);
+    for _ in 0..30 {
+        let (columns, rows) = (r.within(1, 4) as u32, r.within(1, 3) as u32);
+        let words = Draft::of_shape(&mut r, columns, rows).batch.words();
+        for length in 0..=words.len() {
+            let judged = judge(&words[..length]);
+            same(&words[..length], [u64::MAX; 4], judged);
+        }
+    }
+}
+
+/// Every vector that a macroblock in the middle of a picture may have and many that it may not, both ways; the lengths are
+/// those of one block.
+#[test]
+fn vectors() {
+    let frame = Frame { codes: [3; 4], ..Frame::new(3, 3, 3) };
+    for (x, y) in (-70..70).flat_map(|x: i64| (-70..70).step_by(3).map(move |y| (x, y + x.rem_euclid(3)))) {
+        for (kind, direction) in [(1, 2), (2, 3)] {
+            let still = moved(0, 0, 0);
+            let vector = word_of(x, y);
+            let macroblocks: Vec<_> = (0..9).map(|k| if k == 4 { plain(kind, vector, vector) } else { still }).collect();
+            let words = rows(&frame, &macroblocks).words();
+            let judged = judge(&words);
+            let number = same(&words, [u64::MAX; 4], judged);
+            assert_eq!(number == 0, judged.is_ok_and(|lengths| lengths[direction] > 0), "{x} {y}");
+        }
+    }
+}
+
+/// Pictures of so many macroblocks that the lengths are raised by blocks in many rows: the benchmark's own, and ones of any pitch
+/// and first chroma row.
+#[test]
+fn large_pictures() {
+    let mut r = Random::new(74);
+    for seed in 0..6 {
+        for coding in 1..4 {
+            let words = Picture { coding, columns: 30, rows: 20 }.words(seed);
+            assert_eq!(same_beside_all(&words), 0);
+        }
+    }
+    for _ in 0..40 {
+        let (columns, rows) = (r.within(1, 40) as u32, r.within(1, 25) as u32);
+        assert_eq!(same_beside_all(&Draft::of_shape(&mut r, columns, rows).batch.words()), 0);
+    }
+    let batches = Batches::default();
+    for _ in 0..20 {
+        let batch = batches.long(&mut r);
+        same(&batch.words, batch.buffers, batch.judged);
+    }
+}
+
+/// The number of document 01 itself.
+#[test]
+#[ignore = "reads 16 GiB of zero pages"]
+fn more_than_4294967295_words() {
+    let zeros = vec![0u32; 4_294_967_296];
+    let refused = |number: u8| Report { number, place: 4_294_967_295, lengths: [0; 4] };
+    assert_eq!(check(&zeros[..4_294_967_295], [0; 4]), refused(1));
+    assert_eq!(check(&zeros, [0; 4]), refused(27));
+}
+
+/// "27 stands in place of 1 and comes before 13, and no word beyond is judged", with fewer words in place of 4294967295.
+#[test]
+fn too_many_words() {
+    let (exact, zeros) = (needed(&p1()), [&p1()[..], &[0, 0]].concat());
+    let refused = |number: u8, place: u64| Report { number, place, lengths: [0; 4] };
+    assert_eq!(check_up_to(39, &zeros, exact), Report { number: 0, place: 0, lengths: exact });
+    for most in 0..39 {
+        assert_eq!(check_up_to(most, &zeros, [0; 4]), refused(27, most as u64));
+    }
+    let late = [&zeros[..], &[7]].concat();
+    assert_eq!(check_up_to(40, &late, exact), refused(12, 39));
+    assert_eq!(check_up_to(39, &late, exact), refused(27, 39));
+    let mut broken = zeros;
+    broken[31] = 0xc500_0000;
+    for most in 0..39 {
+        let due = if most < 36 { refused(27, most as u64) } else { refused(5, 31) };
+        assert_eq!(check_up_to(most, &broken, exact), due);
+    }
+}
