@@ -134,6 +134,26 @@ fn prefixes() {
     }
 }
 
+/// Runs of 0 to 40 NOOPs before any command and behind END: as they are, cut off within, and with a word in them that is not zero.
+#[test]
+fn runs_of_noops() {
+    let mut r = Random::new(75);
+    for n in 0..2000 {
+        let mut batch = Draft::of_shape(&mut r, 3, 2).batch;
+        let command = r.within(0, batch.0.len() as i64) as usize;
+        let (first, length) = (batch.place(command, 0), n % 41);
+        batch.0.insert(command, vec![0; length]);
+        let mut words = batch.words();
+        assert_eq!(same_beside_all(&words), 0);
+        let within = first + r.within(0, length as i64) as usize;
+        same_beside_all(&words[..within]);
+        if within < words.len() {
+            words[within] = pick(&mut r, &[1, 1 << 31, 0x7349_0007, 0x0500_0000, 0x7004_0008]);
+            same_beside_all(&words);
+        }
+    }
+}
+
 /// Every vector that a macroblock in the middle of a picture may have and many that it may not, both ways; the lengths are
 /// those of one block.
 #[test]
