@@ -1,11 +1,10 @@
 //! What is timed, each behind a call that is not inlined, and their answers held against each other.
 
+use crate::batch_check;
 use hromulice::{Check, Lengths};
+use reference::check::Report;
 use reference::plain;
 use std::hint::black_box;
-
-/// 64 KiB.
-const PART_WORDS: usize = 16384;
 
 /// What the calls work on: batches, one after the other, and a log that is long enough for any one's records.
 pub struct Work {
@@ -14,6 +13,11 @@ pub struct Work {
 }
 
 impl Work {
+    /// One batch, of a picture of so many macroblocks.
+    pub fn one(words: Vec<u32>, macroblocks: u32) -> Work {
+        Work { batches: vec![words], log: vec![0; 24 * macroblocks as usize] }
+    }
+
     pub fn words(&self) -> usize {
         self.batches.iter().map(Vec::len).sum()
     }
@@ -25,42 +29,52 @@ impl Work {
         }
     }
 
-    /// Fails unless every batch is accepted by all, with the same lengths.
-    pub fn agree(&mut self) {
+    /// Fails unless every batch is accepted by all of CONTENDERS and by these, with the same lengths.
+    pub fn agree(&mut self, others: &[Contender]) {
         for words in &self.batches {
-            let answers = CONTENDERS.map(|contender| (contender.name, (contender.call)(words, &mut self.log)));
-            for (name, answer) in &answers[CHECK..] {
-                assert_eq!(*answer, answers[PLAIN].1, "{name} and plain");
+            let due = (CONTENDERS[PLAIN].call)(words, &mut self.log);
+            assert_eq!(due[0], 0, "the batch is refused");
+            for contender in CONTENDERS.iter().chain(others).filter(|contender| contender.name != CONTENDERS[SUM].name) {
+                assert_eq!((contender.call)(words, &mut self.log), due, "{} and plain", contender.name);
             }
-            assert_eq!(answers[PLAIN].1[0], 0, "the batch is refused");
         }
     }
 }
 
+#[derive(Clone, Copy)]
 pub struct Contender {
     pub name: &'static str,
     /// Number, place and the four lengths, or a sum in their place.
     pub call: fn(&[u32], &mut [u8]) -> [u64; 6],
 }
 
-/// By their place in each list of figures.
+/// By their place in CONTENDERS.
 pub const SUM: usize = 0;
-pub const PLAIN: usize = 1;
-pub const CHECK: usize = 2;
-pub const PARTS: usize = 3;
-pub const DECODE: usize = 4;
+pub const C: usize = 1;
+pub const PLAIN: usize = 2;
+pub const CHECK: usize = 3;
+pub const PARTS: usize = 4;
+pub const DECODE: usize = 5;
 
-pub const CONTENDERS: [Contender; 5] = [
+/// The parts of `parts` have 64 KiB.
+pub const CONTENDERS: [Contender; 6] = [
     Contender { name: "sum", call: sum },
+    Contender { name: "c", call: c },
     Contender { name: "plain", call: plain_check },
     Contender { name: "check", call: check },
-    Contender { name: "parts", call: parts },
+    Contender { name: "parts", call: parts::<16384> },
     Contender { name: "decode", call: decode },
 ];
 
 #[inline(never)]
 fn sum(words: &[u32], _: &mut [u8]) -> [u64; 6] {
     [words.iter().fold(0, |sum: u64, word| sum.wrapping_add((*word).into())), 0, 0, 0, 0, 0]
+}
+
+#[inline(never)]
+fn c(words: &[u32], _: &mut [u8]) -> [u64; 6] {
+    let Report { number, place, lengths: [l0, l1, l2, l3] } = batch_check::check(words, [u64::MAX; 4]);
+    [number.into(), place, l0, l1, l2, l3]
 }
 
 #[inline(never)]
@@ -79,10 +93,11 @@ fn check(words: &[u32], _: &mut [u8]) -> [u64; 6] {
     figures(hromulice::check(words, Lengths::LONGEST))
 }
 
+/// In parts of so many words.
 #[inline(never)]
-fn parts(words: &[u32], _: &mut [u8]) -> [u64; 6] {
+pub fn parts<const WORDS: usize>(words: &[u32], _: &mut [u8]) -> [u64; 6] {
     let mut check = Check::new(Lengths::LONGEST);
-    for part in words.chunks(PART_WORDS) {
+    for part in words.chunks(WORDS) {
         check.hand_over(part);
     }
     figures(check.report())

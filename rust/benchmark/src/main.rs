@@ -1,20 +1,40 @@
-//! Speed of the proved check, whole and in parts, and of decoding, beside a fast plain checker of the same rules and a plain
-//! sum over the same words; and peak memory and speed of the program `checker`. tests/benchmark/run builds and starts it.
+//! tests/benchmark/run builds and starts this.
 //!
 //!     benchmark tables                 speed on nine pictures, growth, and with cleared caches
+//!     benchmark details                NOOPs, carried commands, small parts
 //!     benchmark program CHECKER DIR    the program CHECKER, with inputs stored in DIR
-//!     benchmark repeat NAME TYPE N     N calls on a 256 by 175 picture of type I, P or B, for counting instructions
+//!     benchmark repeat NAME BATCH N    N calls of one contender on a batch, for counting instructions
+//!
+//! BATCH is a picture of 256 by 175 macroblocks, I, P or B; or `picture`, a P picture of 120 by 68, alone or with 10000 commands
+//! added: `noops` or `carried` before it, `grouped` NOOPs in a group.
 
-use benchmark::contenders::CONTENDERS;
+use benchmark::commands::{carried_before, noops_before, noops_within, CARRIED, PICTURE};
+use benchmark::contenders::{Work, CONTENDERS};
 use benchmark::pictures::Picture;
-use benchmark::{program, tables};
+use benchmark::{details, program, tables};
 use std::path::Path;
 use std::process::ExitCode;
 
-fn repeat(name: &str, coding: &str, count: &str) -> Option<()> {
+const ADDED: usize = 10_000;
+
+fn batch(name: &str) -> Option<Work> {
+    let large = |coding| Picture { coding, columns: 256, rows: 175 }.several();
+    let added = |words| Work::one(words, PICTURE.macroblocks());
+    match name {
+        "I" => Some(large(1)),
+        "P" => Some(large(2)),
+        "B" => Some(large(3)),
+        "picture" => Some(added(PICTURE.words(0))),
+        "noops" => Some(added(noops_before(ADDED))),
+        "grouped" => Some(added(noops_within(ADDED))),
+        "carried" => Some(added(carried_before(CARRIED.into_iter().cycle().take(ADDED)))),
+        _ => None,
+    }
+}
+
+fn repeat(name: &str, of: &str, count: &str) -> Option<()> {
     let contender = CONTENDERS.into_iter().find(|contender| contender.name == name)?;
-    let coding = ["I", "P", "B"].iter().position(|known| *known == coding)? as u32 + 1;
-    let mut work = Picture { coding, columns: 256, rows: 175 }.several();
+    let mut work = batch(of)?;
     for _ in 0..count.parse().ok()? {
         work.run(&contender);
     }
@@ -25,15 +45,16 @@ fn main() -> ExitCode {
     let arguments: Vec<String> = std::env::args().skip(1).collect();
     match arguments.iter().map(String::as_str).collect::<Vec<_>>()[..] {
         ["tables"] => tables::print(),
+        ["details"] => details::print(),
         ["program", checker, dir] => {
             if let Err(e) = program::measure(Path::new(checker), Path::new(dir)) {
                 eprintln!("benchmark: {e}");
                 return ExitCode::FAILURE;
             }
         }
-        ["repeat", name, coding, count] if repeat(name, coding, count).is_some() => {}
+        ["repeat", name, of, count] if repeat(name, of, count).is_some() => {}
         _ => {
-            eprintln!("usage: benchmark tables | program CHECKER DIR | repeat NAME TYPE N");
+            eprintln!("usage: benchmark tables | details | program CHECKER DIR | repeat NAME BATCH N");
             return ExitCode::from(2);
         }
     }

@@ -4,6 +4,7 @@
 
 use crate::contenders::Work;
 use reference::random::Random;
+use std::fmt;
 
 fn percent(r: &mut Random, chance: u64) -> bool {
     r.next() % 100 < chance
@@ -32,16 +33,26 @@ const F_CODE: u32 = 4;
 const INTRA: [u64; 3] = [100, 12, 6];
 const SKIPPED: [u64; 3] = [0, 15, 25];
 
+impl fmt::Display for Picture {
+    fn fmt(&self, f: &mut fmt::Formatter<'_>) -> fmt::Result {
+        write!(f, "{}x{} {}", self.columns, self.rows, self.name())
+    }
+}
+
 impl Picture {
     pub fn name(&self) -> &'static str {
         ["I", "P", "B"][self.coding as usize - 1]
     }
 
+    pub fn macroblocks(&self) -> u32 {
+        self.columns * self.rows
+    }
+
     /// So many different pictures of this size that they have about as many macroblocks as one of the largest. So a small
     /// picture is not found in a nearer cache, and the processor does not learn by heart which macroblock follows which.
     pub fn several(&self) -> Work {
-        let count = (MACROBLOCKS / (self.columns * self.rows)).max(1);
-        let log = vec![0; 24 * (self.columns * self.rows) as usize];
+        let count = (MACROBLOCKS / self.macroblocks()).max(1);
+        let log = vec![0; 24 * self.macroblocks() as usize];
         Work { batches: (0..count).map(|seed| self.words(seed)).collect(), log }
     }
 
@@ -61,7 +72,7 @@ impl Picture {
         let mut words = self.state();
         let (mut slice_begins, mut group_begins) = (true, true);
         let mut before = Prediction::Intra;
-        for k in 0..self.columns * self.rows {
+        for k in 0..self.macroblocks() {
             let (column, row) = (k % self.columns, k / self.columns);
             let row_ends = column + 1 == self.columns;
             let slice_ends = row_ends || percent(&mut r, 2);
@@ -125,22 +136,6 @@ impl Picture {
             _ => None,
         }
     }
-}
-
-/// So many words of carried commands and NOOPs, about as many words of each.
-pub fn carried(count: usize) -> Vec<u32> {
-    const COMMANDS: [(u32, usize); 6] =
-        [(0x7000_0003, 5), (0x7002_003b, 61), (0x7003_0018, 26), (0x7004_0008, 10), (0x7007_0010, 18), (0x7008_0020, 34)];
-    let mut r = Random::new(7);
-    let mut words = Vec::with_capacity(count);
-    while words.len() + 61 <= count {
-        let (header, length) = COMMANDS[r.within(0, 5) as usize];
-        words.push(header);
-        words.extend((1..length).map(|_| r.next() as u32));
-        words.resize(words.len() + r.within(0, 50) as usize, 0);
-    }
-    words.resize(count, 0);
-    words
 }
 
 #[derive(Clone, Copy)]

@@ -1,30 +1,31 @@
-//! Times of all contenders on the same batches.
+//! Times of several contenders on the same batches.
 
-use crate::contenders::{Work, CONTENDERS};
-use crate::pictures::Picture;
+use crate::contenders::{Contender, Work};
 use std::hint::black_box;
 use std::time::Instant;
 
-/// Seconds, by contender.
-pub type Times = [f64; 5];
-
-/// Batches of one type and size, and the least time of each contender so far.
+/// Batches, and the least time so far, in seconds, of each contender.
 pub struct Sample {
-    pub picture: Picture,
     pub work: Work,
-    pub times: Times,
+    contenders: Vec<Contender>,
+    pub times: Vec<f64>,
 }
 
 impl Sample {
-    pub fn new(picture: Picture) -> Sample {
-        let mut work = picture.several();
-        work.agree();
-        Sample { picture, work, times: [f64::INFINITY; 5] }
+    /// Fails unless all contenders give the same answers.
+    pub fn new(mut work: Work, contenders: &[Contender]) -> Sample {
+        work.agree(contenders);
+        Sample { work, contenders: contenders.to_vec(), times: vec![f64::INFINITY; contenders.len()] }
+    }
+
+    /// Forgets the times.
+    pub fn reset(&mut self) {
+        self.times.fill(f64::INFINITY);
     }
 
     /// Runs each contender once, in turn.
     fn round(&mut self, before: &mut impl FnMut()) {
-        for (time, contender) in self.times.iter_mut().zip(&CONTENDERS) {
+        for (time, contender) in self.times.iter_mut().zip(&self.contenders) {
             before();
             let now = Instant::now();
             self.work.run(contender);
@@ -51,11 +52,13 @@ pub fn measure(samples: &mut [Sample], rounds: u32, mut before: impl FnMut()) {
 /// Memory that is larger than the caches. Going through it puts everything else out of them.
 pub struct Caches(Vec<u64>);
 
-impl Caches {
-    pub fn new() -> Caches {
+impl Default for Caches {
+    fn default() -> Caches {
         Caches(vec![1; 16 << 20])
     }
+}
 
+impl Caches {
     pub fn clear(&mut self) {
         for line in self.0.chunks_mut(8) {
             line[0] = black_box(line[0].wrapping_add(1));

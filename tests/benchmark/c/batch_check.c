@@ -2,13 +2,48 @@
 
 #include "walk.h"
 
-/* A header's words, or 0 if it begins no command. A carried command's lower bits hold its words less 2. */
+/* So many words further. The compiler may not make one addition out of several that come after different branches. */
+static inline const uint32_t *step(const uint32_t *at, size_t words)
+{
+    at += words;
+    __asm__("" : "+r"(at));
+    return at;
+}
+
+/* After the carried commands from here on, as far as the longest would fit. Drivers write them in one order, so that the processor
+ * guesses which one comes: with a branch for each it need not wait for the header to know where the next command begins. */
+static const uint32_t *after_carried(const uint32_t *at, const uint32_t *end)
+{
+    while (end - at >= 61) {
+        switch (*at) {
+        case CARRIED_5:
+            at = step(at, 5);
+            break;
+        case CARRIED_61:
+            at = step(at, 61);
+            break;
+        case CARRIED_26:
+            at = step(at, 26);
+            break;
+        case CARRIED_10:
+            at = step(at, 10);
+            break;
+        case CARRIED_18:
+            at = step(at, 18);
+            break;
+        case CARRIED_34:
+            at = step(at, 34);
+            break;
+        default:
+            return at;
+        }
+    }
+    return at;
+}
+
+/* The words of a command, or 0 if the header begins none. */
 static size_t words_of(uint32_t header)
 {
-    static const uint32_t carried[16] = {[0] = 0x70000003, [2] = 0x7002003b, [3] = 0x70030018,
-                                         [4] = 0x70040008, [7] = 0x70070010, [8] = 0x70080020};
-    if (header == carried[header >> 16 & 15])
-        return (header & 0xff) + 2;
     switch (header) {
     case END:
         return 1;
@@ -20,6 +55,13 @@ static size_t words_of(uint32_t header)
         return 8;
     case MACROBLOCK:
         return MACROBLOCK_WORDS;
+    case CARRIED_5:
+    case CARRIED_61:
+    case CARRIED_26:
+    case CARRIED_10:
+    case CARRIED_18:
+    case CARRIED_34:
+        return (header & 0xff) + 2;
     default:
         return 0;
     }
@@ -83,6 +125,8 @@ static void walk_batch(walk *w)
     const uint32_t *at = w->words;
     while (w->number == 0) {
         at = after_zeros(at, w->end);
+        if (!w->group_seen)
+            at = after_zeros(after_carried(at, w->end), w->end);
         if (at == w->end)
             return refuse(w, 1, w->end);
         size_t words = words_of(*at);

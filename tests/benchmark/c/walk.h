@@ -14,7 +14,14 @@ enum {
     PICTURE = 0x7300000b,
     SLICEGROUP = 0x73430006,
     MACROBLOCK = 0x73490007,
-    MACROBLOCK_WORDS = 9
+    MACROBLOCK_WORDS = 9,
+    /* Carried commands, by their words, of which the lower bits hold two less. */
+    CARRIED_5 = 0x70000003,
+    CARRIED_61 = 0x7002003b,
+    CARRIED_26 = 0x70030018,
+    CARRIED_10 = 0x70040008,
+    CARRIED_18 = 0x70070010,
+    CARRIED_34 = 0x70080020
 };
 
 typedef struct {
