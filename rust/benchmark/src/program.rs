@@ -116,7 +116,7 @@ impl Times {
 /// Inputs that are one whole picture and nothing else.
 fn pictures(runs: &Runs) -> Result<()> {
     let start = runs.start()?;
-    println!("The program on one whole picture, and the check of its words in memory; the least of {RUNS_ON_PICTURES} runs of each, in turn.");
+    println!("The program on one whole picture, and the check of its words in memory; the least of {RUNS_ON_PICTURES} runs.");
     println!(
         "An input without words takes the program {:.3} ms: the start of a process, which the last ratio leaves out.",
         start * 1e3
@@ -134,7 +134,7 @@ fn pictures(runs: &Runs) -> Result<()> {
 
 /// Inputs of several sizes, and what the peaks come to.
 fn sizes(runs: &Runs) -> Result<()> {
-    println!("The program on inputs of carried commands, NOOPs and one P picture; the least of {RUNS} runs of each, in turn.");
+    println!("The program on carried commands, NOOPs and one P picture, and the check of them; the least of {RUNS} runs.");
     Times::heading("input", "peak KiB");
     let mut peaks = Vec::new();
     for megabytes in [1, 10, 100] {

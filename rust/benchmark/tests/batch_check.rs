@@ -134,7 +134,7 @@ fn prefixes() {
     }
 }
 
-/// Runs of 0 to 40 NOOPs before any command and behind END: as they are, cut off within, and with a word in them that is not zero.
+/// Runs of 0 to 40 NOOPs before any command and behind END: whole, cut off within, and with a word in them that is not zero.
 #[test]
 fn runs_of_noops() {
     let mut r = Random::new(75);

@@ -10,8 +10,8 @@ static inline const uint32_t *step(const uint32_t *at, size_t words)
     return at;
 }
 
-/* After the carried commands from here on, as far as the longest would fit. Drivers write them in one order, so that the processor
- * guesses which one comes: with a branch for each it need not wait for the header to know where the next command begins. */
+/* After the carried commands from here on, as far as the longest would fit. Each has a branch of its own: where they come in
+ * one order the processor predicts it, and need not wait for a header to know where the next command begins. */
 static const uint32_t *after_carried(const uint32_t *at, const uint32_t *end)
 {
     while (end - at >= 61) {
@@ -145,8 +145,8 @@ static void walk_batch(walk *w)
         refuse(w, 12, at);
 }
 
-/* "13 comes after the whole batch", at the "lowest such buffer". Every macroblock touches its own samples in buffers 0 and 1, so
- * the last one touches the highest byte. */
+/* "13 comes after the whole batch", at the "lowest such buffer". Every macroblock touches its own samples in buffers 0 and
+ * 1, so the last one touches the highest byte. */
 static batch_answer beside(const walk *w, const uint64_t lengths[4])
 {
     const picture *p = &w->p;

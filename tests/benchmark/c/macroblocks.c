@@ -1,7 +1,8 @@
-/* The loop over macroblocks. One that keeps every rule goes through it by a few comparisons of four words at once. What is compared
- * depends on the macroblock's kind by masks that are looked up, and not by branches: kinds follow each other as they like, and a
- * branch that is predicted wrongly takes longer than the whole macroblock. If a comparison fails, macroblock.c finds out what is
- * broken. An address is computed only for a block that reaches a row in which the buffer's end can be raised. */
+/* The loop over macroblocks. One that keeps every rule goes through it by a few comparisons of four words at once. What is
+ * compared depends on the macroblock's kind by masks that are looked up, and not by branches: kinds follow each other
+ * in any order, and a branch that is predicted wrongly takes longer than the whole macroblock. If a comparison fails,
+ * macroblock.c finds out what is broken. An address is computed only for a block that reaches a row in which the buffer's
+ * end can be raised. */
 #include "kinds.h"
 #include "walk.h"
 
@@ -93,7 +94,8 @@ static __attribute__((noinline)) int32_t raised(const picture *p, reference *r, 
     return least_raising(r, position >> 16);
 }
 
-/* Counts the blocks that a macroblock predicts. It has not been judged yet; if it is broken, nothing that was counted is reported. */
+/* Counts the blocks that a macroblock predicts. It has not been judged yet; if it is broken, nothing that was counted is
+ * reported. */
 in_loop void count(walk *w, cursor *g, const uint32_t *m, uint32_t type)
 {
     if (rarely((int32_t)m[5] >= g->forward) && m[1] & 0x0100)
@@ -121,8 +123,8 @@ in_loop __m128i wrong_copies(const cursor *g, const kind *k, __m128i v, uint32_t
     return _mm_or_si128(wrong, _mm_and_si128(_mm_xor_si128(v, load(g->before + 5)), quad_of(&k->repeated)));
 }
 
-/* Not zero where a component that predicts is beyond its f code, or its luma block outside the picture: it is inside if it starts at
- * 0 to 32(W−1) half samples, since 16 columns, or 17 from an odd start, then end at 16W−1 or before. */
+/* Not zero where a component that predicts is beyond its f code, or its luma block outside the picture: it is inside if it
+ * starts at 0 to 32(W−1) half samples, since 16 columns, or 17 from an odd start, then end at 16W−1 or before. */
 in_loop __m128i wrong_vectors(const cursor *g, const range *r, const kind *k, __m128i v)
 {
     __m128i outside = _mm_subs_epu16(_mm_add_epi16(v, g->place), r->greatest);

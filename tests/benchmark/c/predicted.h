@@ -27,9 +27,9 @@ static inline uint32_t chroma_last(uint32_t place, int32_t v)
     return 8 * place + (uint32_t)((half >> 1) + 7 + (half & 1));
 }
 
-/* With a vector word below this one, both taken as signed numbers, no block of a macroblock in this row reaches those rows: vy, the
- * upper half, is too small. A block's last row is n further down than with vy = 0 from vy = 2n−1 on for luma, and for chroma from
- * 4n−2 on, or 4n−3 if n is not positive. */
+/* With a vector word below this one, both taken as signed numbers, no block of a macroblock in this row reaches those rows:
+ * vy, the upper half, is too small. A block's last row is n further down than with vy = 0 from vy = 2n−1 on for luma, and
+ * for chroma from 4n−2 on, or 4n−3 if n is not positive. */
 static inline int32_t least_raising(const reference *r, uint32_t row)
 {
     int32_t luma = 2 * (int32_t)(r->luma_row - luma_last(row, 0)) - 1;
@@ -53,7 +53,8 @@ static inline void count_blocks(const picture *p, reference *r, uint32_t positio
             r->luma_row = 16 * p->rows;
     }
     r->end = end;
-    /* If all of the chroma row before the block's last one lies before the end, so do the rows above it. In plain rows it does. */
+    /* If all of the chroma row before the block's last one lies before the end, so do the rows above it. In plain rows it
+     * does. */
     if (__builtin_expect(cr_byte(p, 8 * p->columns - 1, bottom - 1) >= end, 0))
         return;
     r->chroma_row = bottom > r->chroma_row ? bottom : r->chroma_row;
