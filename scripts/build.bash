@@ -100,7 +100,7 @@ judge_product() {
     sources=$(hash_sources 2> /dev/null) || die "the sources in $root/crates cannot be read"
     kit=$(find_kit)
     [[ ! -r $record ]] || mapfile -t built < "$record"
-    if [[ ! -e $file && ! -e $record ]]; then why='for the first time'
+    if [[ ! -e $file && ! -e $record ]]; then why='it is not built yet'
     elif [[ ! -f $file || ! -r $file ]]; then why="$product is missing"
     elif [[ $crate == checker && ! -x $file ]]; then why="$product may not be run"
     elif [[ ${#built[@]} -ne 3 ]]; then why="nothing says what $product was built from"

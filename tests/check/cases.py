@@ -1,0 +1,316 @@
+"""The cases of ./check. A case has a copy of the repository of its own, built, and tests/check/rt in place of the kit's rt.
+
+command  what is tried, in bash, in the copy's folder
+status   what it has to end with
+out      what it has to print
+err      what it has to say: a regular expression for all of it
+before   what is done first. `says TEXT [STATUS]` has the next build make a program that prints TEXT and ends with STATUS
+builds   how often rt is called to build something
+after    what has to hold at the end, in bash
+kit      fake; none: there is no rt; real: the kit's own rt, and the copy of the real case before, which has all that rt built
+"""
+import dataclasses
+
+
+@dataclasses.dataclass
+class Case:
+    name: str
+    command: str
+    status: int
+    out: str = ''
+    err: str = ''
+    before: str = ''
+    builds: int = 0
+    after: str = ''
+    kit: str = 'fake'
+    terminal: bool = False
+
+
+P1, BELOW = 'accept 2960 2960 0 0\n', 'refuse 10 50\n'
+SEVEN = 'accept 7 7 7 7\n'
+USAGE = r'usage: \./check .*\n'
+UNWRITTEN = 'check: standard output cannot be written\n'
+CHANGED = 'the sources changed since it was built'
+ADD = 'echo "// changed" >> '
+NO_RECORD = '[[ ! -e target/bin/checker.built ]]'
+
+
+def building(why, crates, self='check', what='the checker'):
+    """What is said during a build that ends well."""
+    lines = [rf'{self}: building {what} \({why}\)\. Every crate is proved first, which can take some minutes\n']
+    return ''.join(lines + [f'{self}: {i}/{len(crates)} {name}\n' for i, name in enumerate(crates, 1)])
+
+
+def answers():
+    several = 'samples/p1.batch: accept 2960 2960 0 0\n'
+    return [
+        Case('a file', './check samples/p1.batch', 0, P1),
+        Case('a file that is refused', './check samples/vector_below.batch', 1, BELOW),
+        Case('number 13', './check samples/short_reference.batch', 1, 'refuse 13 2 2976 2976 2962 0\n'),
+        Case('standard input', './check < samples/p1.batch', 0, P1),
+        Case('standard input by name', './check - < samples/vector_below.batch', 1, BELOW),
+        Case('a pipe', 'cat samples/p1.batch | ./check', 0, P1),
+        Case('a pipe as a file', './check <(cat samples/p1.batch)', 0, P1),
+        Case('empty input', './check < /dev/null', 1, 'refuse 16 0\n'),
+        Case('several, accepted', './check samples/p1.batch samples/b_picture.batch', 0, several + 'samples/b_picture.batch: accept 6064 6064 5792 5808\n'),
+        Case('several, one refused', './check samples/vector_below.batch samples/p1.batch', 1, 'samples/vector_below.batch: ' + BELOW + several),
+        Case('several, all statuses', './check samples/p1.batch none samples/vector_below.batch samples samples/p1.batch', 2,
+             several + 'samples/vector_below.batch: ' + BELOW + several,
+             'check: none cannot be read: No such file or directory\ncheck: samples cannot be read: it is a directory\n'),
+        Case('several, standard input among them', './check samples/p1.batch - < samples/vector_below.batch', 1, several + '-: ' + BELOW),
+        Case('standard input twice', './check - - < samples/p1.batch', 2, err='check: standard input can be read once.*\n'),
+        Case('started by sh', 'sh ./check samples/p1.batch', 0, P1),
+        Case('POSIX mode', 'POSIXLY_CORRECT=1 ./check samples/p1.batch none', 2, several, 'check: none cannot be read: .*\n'),
+    ]
+
+
+def options():
+    return [
+        Case('no argument on a terminal', './check', 2, err=USAGE, terminal=True),
+        Case('an unknown option', './check --frobnicate samples/p1.batch', 2, err='check: --frobnicate is no option\n' + USAGE),
+        Case('an unknown option behind a file', './check samples/p1.batch -x', 2, err='check: -x is no option\n' + USAGE),
+        Case('--help', './check --help > help; s=$?; grep -c -e "accept, and" -e "layout and the buffers alone" -e "little-endian" -e "^Status: 0 .* 1 .* 2 " help; exit $s', 0, '4\n'),
+        Case('--help, nothing built', './check --help > /dev/null', 0, before='rm -r target', after='[[ ! -e target ]]'),
+        Case('--help, full', './check --help > /dev/full', 2, err=UNWRITTEN),
+        Case('--help, closed', './check --help >&-', 2, err='check: standard output is closed\n'),
+        Case('--version', './check --version', 0, 'hromulice 9.8.7\nkit fake kit 1\nsources SOURCES\n',
+             before=r'''sed -i '/HROMULICE_VERSION_TEXT/d' include/hromulice.h; echo '#define HROMULICE_VERSION_TEXT "9.8.7"' >> include/hromulice.h'''),
+        Case('--version without rt', './check --version | sed 1d', 0, 'kit fake kit 1\nsources SOURCES\n', kit='none',
+             before=r'''echo '#define HROMULICE_VERSION_TEXT "9.8.7"' >> include/hromulice.h'''),
+        Case('--version of no version', './check --version', 2, err='check: {repo}/include/hromulice.h names no version\n',
+             before="sed -i '/HROMULICE_VERSION_TEXT/d' include/hromulice.h"),
+        Case('--version, full', './check --version > /dev/full', 2, err=UNWRITTEN,
+             before=r'''echo '#define HROMULICE_VERSION_TEXT "9.8.7"' >> include/hromulice.h'''),
+    ]
+
+
+def descriptors(crates):
+    changed = ADD + 'crates/fields/src/lib.rt'
+    gone = '(sleep 0.3; ./check samples/p1.batch {}; echo "ended with $?" >&2) | true'
+    return [
+        Case('standard input closed', './check <&-', 2, err='check: standard input cannot be read: it is closed\n'),
+        Case('standard input closed, nothing built', './check - <&-', 2, err='check: standard input cannot be read: it is closed\n', before='rm -r target'),
+        Case('standard input closed and a file', './check samples/p1.batch <&-', 0, P1),
+        Case('standard input closed and reached by its path', './check /dev/stdin <&-', 2, err='check: /dev/stdin cannot be read: .*\n'),
+        Case('standard output closed', './check samples/p1.batch >&-', 2, err='check: standard output is closed\n'),
+        Case('standard output full', './check samples/p1.batch > /dev/full', 2, err=UNWRITTEN),
+        Case('standard output full, several files', './check samples/p1.batch samples/vector_below.batch > /dev/full', 2, err=UNWRITTEN),
+        Case('standard output full, refused', './check samples/vector_below.batch > /dev/full', 2, err=UNWRITTEN),
+        Case('nobody reads standard output', gone.format(''), 0, err=UNWRITTEN + 'ended with 2\n'),
+        Case('standard error closed', './check samples/p1.batch 2>&-', 0, P1),
+        Case('standard error closed, refused', './check none samples/vector_below.batch 2>&-', 2, 'samples/vector_below.batch: ' + BELOW),
+        Case('standard error closed, to be built', './check samples/p1.batch 2>&-', 0, P1, before=changed, builds=1),
+        Case('nobody reads standard error, to be built', '{ (sleep 0.3; ./check samples/p1.batch 2>&1 >&3; echo "ended with $?" >&3) | true; } 3>&1', 0,
+             P1 + 'ended with 0\n', before=changed, builds=1),
+        Case('all closed', './check samples/p1.batch <&- >&- 2>&-', 2),
+        Case('standard input that may only be written', './check 0> written', 2, err='check: standard input cannot be read\n'),
+        Case('a directory as standard input', './check < samples', 2, err='check: standard input cannot be read: it is a directory\n'),
+        Case('standard input, to be built', './check < samples/vector_below.batch', 1, BELOW, building(CHANGED, crates), changed, builds=1),
+    ]
+
+
+def names():
+    quoted = "\"\\$'a: accept 1 1 1 1\\\\\\\\nb'\""
+    return [
+        Case('another folder', 'cd samples && ../check p1.batch', 0, P1),
+        Case('the root folder', 'here=$PWD; cd / && "$here/check" "$here/samples/p1.batch"', 0, P1),
+        Case('a link', 'ln -s "$PWD/check" "$ROOM/link"; cd / && "$ROOM/link" "$OLDPWD/samples/p1.batch"', 0, P1),
+        Case('relative links in a chain', 'mkdir -p "a b/c"; ln -s ../../samples/up "a b/c/first"; ln -s ../check samples/up; cd "a b" && c/first ../samples/p1.batch', 0, P1),
+        Case('found on the PATH', 'mkdir on; ln -s ../check on/check-batch; cd samples && PATH=$PATH:$PWD/../on check-batch p1.batch', 0, P1),
+        Case('CDPATH', 'CDPATH=$PWD:/ bash samples/../check samples/p1.batch', 0, P1),
+        Case('CDPATH, to be built', 'CDPATH=$PWD:/ bash samples/../check samples/p1.batch 2> /dev/null', 0, P1, before=ADD + 'crates/rows/src/lib.rt', builds=1),
+        Case('a repository whose name has a blank, quotes and a line feed', '"$ROOM/$odd/check" "$ROOM/$odd/samples/p1.batch" 2> /dev/null', 0, P1,
+             before='''odd=$'a "b\\' c\\n'; rm -rf "$ROOM/$odd"; cp -a . "$ROOM/$odd"; echo >> "$ROOM/$odd/crates.txt"''', builds=1),
+        Case('a blank and quotes', '''cp samples/p1.batch $'a "b\\' c'; ./check $'a "b\\' c' samples/p1.batch''', 0, '''a "b' c: accept 2960 2960 0 0\nsamples/p1.batch: ''' + P1),
+        Case('a line feed', r'''f=$'a: accept 1 1 1 1\nb'; cp samples/vector_below.batch "$f"; ./check "$f"''', 1, BELOW),
+        Case('a line feed, among several', r'''f=$'a: accept 1 1 1 1\nb'; cp samples/vector_below.batch "$f"; ./check "$f" "$f" none''', 2,
+             2 * (r"$'a: accept 1 1 1 1\nb': " + BELOW), 'check: none cannot be read: .*\n'),
+        Case('a line feed in a missing name', r'''./check $'a\nb' ''', 2, err=r"check: \$'a\\nb' cannot be read: No such file or directory\n"),
+        Case('a dash in front, behind --', 'cp samples/p1.batch ./-x.batch; ./check -- -x.batch', 0, P1),
+        Case('a dash in front, with a folder', 'cp samples/p1.batch ./-x.batch; ./check ./-x.batch', 0, P1),
+        Case('a dash in front alone', 'cp samples/p1.batch ./-x.batch; ./check -x.batch', 2, err='check: -x.batch is no option\n' + USAGE),
+        Case('a file called -', 'cp samples/p1.batch ./-; ./check ./- < samples/vector_below.batch', 0, P1),
+        Case('a directory', './check samples', 2, err='check: samples cannot be read: it is a directory\n'),
+        Case('a missing file', './check none', 2, err='check: none cannot be read: No such file or directory\n'),
+        Case('a missing file, to be built', './check none', 2, err='check: none cannot be read: No such file or directory\n', before='rm -r target'),
+        Case('an empty name', "./check ''", 2, err="check: '' cannot be read: No such file or directory\n"),
+        Case('a link to nothing', 'ln -s none link; ./check link', 2, err='check: link cannot be read: No such file or directory\n'),
+        Case('an unreadable file', 'cp samples/p1.batch f; chmod 0 f; $NOBODY ./check f', 2, err='check: f cannot be read: Permission denied\n'),
+        Case('a folder that may not be searched', 'mkdir d; cp samples/p1.batch d/f; chmod 0 d; $NOBODY ./check d/f; s=$?; chmod 700 d; exit $s', 2,
+             err='check: d/f cannot be read: Permission denied\n'),
+    ]
+
+
+def old_products(crates):
+    """Each state in which the program that is there must not be believed, with the reason that is given. The new one says SEVEN."""
+    other = r"printf '#!/bin/sh\necho accept 1 1 1 1\n'"
+    not_built = r'target/bin/checker is not the file that was built'
+    unknown = r'nothing says what target/bin/checker was built from'
+    states = [
+        ("the program's source changed", ADD + 'crates/checker/src/main.rt', CHANGED),
+        ("a lower crate's source changed", ADD + 'crates/fields/src/lib.rt', CHANGED),
+        ("a lower crate's spec changed", ADD + '"$(find crates/picture/specs -type f | sort | head -n 1)"', CHANGED),
+        ("a lower crate's proof changed", ADD + '"$(find crates/answers/proofs -type f | sort | tail -n 1)"', CHANGED),
+        ('a file came', 'touch crates/rows/proofs/New.antt', CHANGED),
+        ('a file went', 'rm "$(find crates/rows/proofs -type f | sort | head -n 1)"', CHANGED),
+        ('a file has another name', 'mv crates/stream/src/lib.rt crates/stream/src/lib2.rt', CHANGED),
+        ('two files are exchanged', 'cd crates/batch/src; set -- *.rt; mv $1 x; mv $2 $1; mv x $2; cd ../../..', CHANGED),
+        ("the program's input changed", 'printf x >> crates/checker/stdin', CHANGED),
+        ('crates.txt changed', 'echo "# changed" >> crates.txt', CHANGED),
+        ('a date was put back', 'touch -r crates/rows/src/lib.rt t; ' + ADD + 'crates/rows/src/lib.rt; touch -r t crates/rows/src/lib.rt', CHANGED),
+        ('another kit', 'export FAKE_KIT="fake kit 2"', 'it was built by another kit, fake kit 1'),
+        ('the program is a script', other + ' > target/bin/checker', not_built),
+        ('the program is true', 'cat "$(type -P true)" > target/bin/checker', not_built),
+        ('the program is damaged', 'printf x >> target/bin/checker', not_built),
+        ('the program is missing', 'rm target/bin/checker', 'target/bin/checker is missing'),
+        ('the program may not be run', 'chmod a-x target/bin/checker', 'target/bin/checker may not be run'),
+        ('no record', 'rm target/bin/checker.built', unknown),
+        ('half a record', 'sed -i 2q target/bin/checker.built', unknown),
+        ('neither program nor record', 'rm target/bin/checker*', 'it is not built yet'),
+        ('nothing', 'rm -r target', 'it is not built yet'),
+        ('built by hand from changed sources, which were put back',
+         'cp crates/checker/src/main.rt k; ' + ADD + 'crates/checker/src/main.rt; says "accept 1 1 1 1"; rt check checker; mv k crates/checker/src/main.rt', not_built),
+    ]
+    for name, before, why in states:
+        yield Case(name, './check samples/p1.batch; ./check samples/p1.batch', 0, 2 * SEVEN, building(why, crates), before + "; says 'accept 7 7 7 7'", 1)
+
+
+def kept_products():
+    for name, before in [
+        ('a document changed', ADD + 'README.md'),
+        ('a must-fail edit changed', ADD + '"$(find crates/fields/must-fail -type f | head -n 1)"'),
+        ('a crate changed that the program is not made from', ADD + 'crates/hromulice/src/lib.rt'),
+        ('dates alone changed', 'find crates -type f -exec touch {} +'),
+        ('the repository was moved', 'cp -a . "$ROOM/moved"; cd "$ROOM/moved"'),
+    ]:
+        yield Case(name, './check samples/p1.batch', 0, P1, before=before + "; says 'accept 7 7 7 7'")
+
+
+def failing_builds(crates):
+    changed, again = ADD + 'crates/fields/src/lib.rt; ', '; ./check samples/p1.batch 2> /dev/null'
+    start = building(CHANGED, [])
+    all_but_last = building(CHANGED, crates)[:-len(f'check: {len(crates)}/{len(crates)} checker\n')]
+    not_built = 'check: the checker was not built from the sources as they are; all that rt said is in {repo}/target/log/checker.build\n'
+    return [
+        Case('not proved', './check samples/p1.batch', 2, err=all_but_last + '(rt: .*\n)+rt: FAILED: checker\n' + not_built, builds=1,
+             before=changed + 'export FAKE_DOES=fails', after=NO_RECORD),
+        Case('not proved, several files', './check none samples/p1.batch samples/p1.batch 2> /dev/null', 2, builds=1,
+             before=changed + 'export FAKE_DOES=fails', after=NO_RECORD),
+        Case('not proved, then put right', 'FAKE_DOES=fails ./check samples/p1.batch 2> /dev/null' + again, 0, P1, before=changed, builds=2),
+        Case('the sources change during the build', 'FAKE_DOES=edits ./check samples/p1.batch', 2, before=changed, builds=1, after=NO_RECORD,
+             err=building(CHANGED, crates) + 'check: the sources changed while the checker was built from them: call again\n'),
+        Case('the sources change during the build, and back', 'FAKE_DOES=edits_back ./check samples/p1.batch', 2, before=changed, builds=1,
+             err=building(CHANGED, crates) + 'check: the sources changed while the checker was built from them: call again\n',
+             after=NO_RECORD + ' && [[ ! -e target/stamp/fields && ! -e target/stamp/stream ]]'),
+        Case('the sources change during the build, then not', 'FAKE_DOES=edits ./check samples/p1.batch 2> /dev/null' + again, 0, P1, before=changed, builds=2),
+        Case('rt leaves a crate out', 'FAKE_DOES=omits ./check samples/p1.batch 2> /dev/null', 2, before=changed, builds=1, after=NO_RECORD),
+        Case('rt links nothing', 'FAKE_DOES=links_nothing ./check samples/p1.batch 2> /dev/null', 2, before=changed, builds=1, after=NO_RECORD),
+        Case('a link among the sources', './check samples/p1.batch', 2,
+             before='mv crates/rows/src/lib.rt lib.rt; ln -s ../../../lib.rt crates/rows/src/lib.rt; ' + ADD + 'lib.rt',
+             err=start + 'check: crates/rows/src/lib.rt is a symbolic link, and rt follows none: .*\n'),
+        Case('an unreadable source', '$NOBODY ./check samples/p1.batch', 2, before='chmod 0 crates/rows/src/lib.rt',
+             err='check: the sources in {repo}/crates cannot be read\n'),
+        Case('no crates.txt', './check samples/p1.batch', 2, before='rm crates.txt', err='check: {repo}/crates.txt cannot be read\n'),
+    ]
+
+
+def wrong_lines():
+    """What a program may not say. None of it is passed on."""
+    for said in ['accept 1 2 3', 'accept 1 2 3 4 5', 'accept 01 2 3 4', 'accept -1 2 3 4', 'accept  1 2 3 4', 'accept 1 2 3 4 ', 'accepted 1 2 3 4',
+                 'accept', 'refuse', 'refuse 10', 'refuse 10 50 1', 'refuse 13 2', 'refuse 13 2 1 1 1', 'refuse 0 0', 'accept 1 2 3 4\\naccept 1 2 3 4', '']:
+        yield Case(f'the program says: {said}', './check samples/p1.batch', 2, err='check: samples/p1.batch: the program .* ended with status 0 and no answer: .*\n',
+                   before=f"{ADD}crates/fields/src/lib.rt; says '{said}'; ./check samples/p1.batch")
+    for name, said in [('no line feed', 'printf "accept 1 2 3 4"'), ('status 1', 'echo accept 1 2 3 4; exit 1'), ('a signal', 'echo accept 1 2 3 4; kill -9 $$'),
+                       ('a complaint beside the line', 'echo accept 1 2 3 4; echo so >&2')]:
+        yield Case(f'the program ends with {name}', './check samples/p1.batch 2> said; s=$?; grep -c "^check: samples/p1.batch: the program .* no answer" said; exit $s', 2, '1\n',
+                   before=f"{ADD}crates/fields/src/lib.rt; printf '#!/bin/sh\\n%s\\n' '{said}' > \"$ROOM/other\"; export FAKE_PRODUCT=$ROOM/other; ./check samples/p1.batch")
+
+
+def several_at_once(crates):
+    changed = ADD + 'crates/fields/src/lib.rt; export FAKE_DOES=waits'
+    once = '(?s)(?!(.*building the checker){2})(?=.*building the checker)(?=.*waiting for another build to end).*'
+    interrupted = 'timeout -s {} 0.6 ./check samples/p1.batch 2> /dev/null; [[ -e target/bin/checker.built ]] || FAKE_DOES= ./check samples/p1.batch 2> /dev/null'
+    return [
+        Case('two at once', './check samples/p1.batch & ./check samples/p1.batch; s=$?; wait $! && exit $s', 0, 2 * P1, once, changed, 1),
+        Case('two at once, nothing built', './check samples/p1.batch & ./check samples/p1.batch; s=$?; wait $! && exit $s', 0, 2 * P1, once, 'rm -r target; export FAKE_DOES=waits', 1),
+        Case('two at once that are built', './check samples/p1.batch & ./check samples/p1.batch; s=$?; wait $! && exit $s', 0, 2 * P1),
+        Case('interrupted', interrupted.format('INT'), 0, P1, before=changed, builds=2),
+        Case('terminated', interrupted.format('TERM'), 0, P1, before=changed, builds=2),
+        Case('killed, and rt goes on', './check samples/p1.batch 2> /dev/null & sleep 0.5; kill -9 $!; wait $! 2> /dev/null; FAKE_DOES= ./check samples/p1.batch', 0,
+             P1, r'check: waiting for another build to end\n' + building('nothing says what target/bin/checker was built from', crates), changed, 2),
+    ]
+
+
+def without(kit):
+    needs = r'check: the checker has to be built \({why}\), which needs the Rattle kit, ' + kit + ': no rt that runs is on the PATH\n'
+    unwritable = r'check: the checker has to be built \({why}\), and {repo}/target cannot be written: copy the repository to a folder that you can write, .*\n'
+    return [
+        Case('no rt, built', './check samples/p1.batch', 0, P1, kit='none'),
+        Case('no rt, nothing built', './check samples/p1.batch', 2, kit='none', before='rm -r target', err=needs.replace('{why}', 'it is not built yet')),
+        Case('no rt, sources changed', './check samples/p1.batch', 2, kit='none', before=ADD + 'crates/fields/src/lib.rt', err=needs.replace('{why}', CHANGED)),
+        Case('no rt, another program', './check samples/p1.batch', 2, kit='none', before='printf x >> target/bin/checker', err=needs.replace('{why}', '.*')),
+        Case('an rt that does not run', './check samples/p1.batch', 2, kit='none', err=needs.replace('{why}', CHANGED),
+             before=ADD + 'crates/fields/src/lib.rt; mkdir bad; printf "#!/bin/sh\\nexit 2\\n" > bad/rt; chmod +x bad/rt; PATH=$PWD/bad:$PATH'),
+        Case('read-only, built', '$NOBODY ./check samples/p1.batch', 0, P1, before='chmod -R a-w .'),
+        Case('read-only, several files', '$NOBODY ./check samples/p1.batch - < samples/vector_below.batch', 1, 'samples/p1.batch: ' + P1 + '-: ' + BELOW, before='chmod -R a-w .'),
+        Case('read-only, to be built', '$NOBODY ./check samples/p1.batch', 2, before=ADD + 'crates/fields/src/lib.rt; chmod -R a-w .',
+             err=unwritable.replace('{why}', CHANGED)),
+        Case('read-only, nothing built', '$NOBODY ./check samples/p1.batch', 2, before='rm -r target; chmod -R a-w .', err=unwritable.replace('{why}', 'it is not built yet')),
+    ]
+
+
+def recorded(crates):
+    here = 'rm target/bin/checker.built; '
+    log = 'see {repo}/target/log/checker.build\n'
+    then = './check --built && ./check samples/p1.batch'
+    return [
+        Case('--built', then, 0, P1, before=here, builds=1),
+        Case('--built, sources changed', then, 2, before=here + ADD + 'crates/fields/src/lib.rt', builds=1, after=NO_RECORD,
+             err='check: target/bin/checker was not built from these sources, some of which rt had to prove again: ' + log),
+        Case('--built, not proved', then, 2, before=here + ADD + 'crates/fields/src/lib.rt; export FAKE_DOES=fails', builds=1, after=NO_RECORD,
+             err='check: rt does not prove these sources: ' + log),
+        Case('--built, another program', then, 2, before=here + 'cat "$(type -P true)" > target/bin/checker', builds=1, after=NO_RECORD,
+             err='check: target/bin/checker does not print what crates/checker/stdout has\n'),
+        Case('--built, no program', then, 2, before=here + 'rm target/bin/checker', builds=1, after=NO_RECORD, err='check: target/bin/checker does not print .*\n'),
+        Case('--built without rt', then, 2, kit='none', err='check: .* needs the Rattle kit.*\n', before=here, after=NO_RECORD),
+    ]
+
+
+def products(crates, library):
+    made = building('it is not built yet', library, 'build', 'the library for C')
+    copied = ' && cmp target/staticlib/libhromulice.a "$FAKE_PRODUCT" && cmp target/bin/checker "$FAKE_PRODUCT"'
+    return [
+        Case('tests/build', 'tests/build && tests/build', 0, err=made, builds=1, after='true' + copied),
+        Case('tests/build, nothing built', 'cd samples && ../tests/build && ../tests/build', 0, err=building('it is not built yet', crates, 'build') + made,
+             before='rm -r target', builds=2, after='true' + copied),
+        Case('tests/build program', 'tests/build program', 0, after='[[ ! -e target/staticlib/libhromulice.a ]]'),
+        Case('tests/build library, sources changed', 'tests/build library', 0, err=building(CHANGED, library, 'build', 'the library for C'), builds=1,
+             before='tests/build; ' + ADD + 'crates/memory/src/lib.rt'),
+        Case('tests/build library, another file', 'tests/build library', 0, err='(?s)build: building .*is not the file that was built.*', builds=1,
+             before='tests/build; echo >> target/staticlib/libhromulice.a', after='cmp target/staticlib/libhromulice.a "$FAKE_PRODUCT"'),
+        Case('tests/build library, not proved', 'FAKE_DOES=fails tests/build library', 2, err='(?s).*build: the library for C was not built.*', builds=1),
+        Case('tests/build of something else', 'tests/build kettle', 2, err='build: kettle is neither program nor library\n'),
+    ]
+
+
+def real(crates):
+    """With the kit's own rt, one after the other on one copy."""
+    main, said = 'crates/checker/src/main.rt', "target/bin/checker 0> written 2>&1 | cat"
+    some = '(check: [0-9]+/' + str(len(crates)) + r' \w+\n)' + '{' + str(len(crates)) + '}'
+    change = f"sed -i 's/checker: cannot read standard input/checker: cannot READ standard input/' {main}; "
+    return [
+        Case('real: recorded as rt built it', './check --built && ./check samples/p1.batch', 0, P1, kit='real', before='rm -f target/bin/checker.built'),
+        Case('real: does not compile', './check samples/p1.batch', 2, err='(?s)check: building .*rt: checker NOT PROVED.*\ncheck: the checker was not built .*\n', kit='real',
+             before=f'cp -a {main} target/bin/checker target/bin/checker.built "$ROOM"; echo "fn (" >> {main}', after=NO_RECORD),
+        Case('real: sources changed', f'./check samples/p1.batch; ./check samples/p1.batch; {said}', 0, 2 * P1 + 'checker: cannot READ standard input\n',
+             building('it is not built yet', []) + some, kit='real', before=f'cp "$ROOM/main.rt" {main}; {change}'),
+        Case('real: built by hand from changed sources, which were put back', f'./check samples/p1.batch; {said}', 0, P1 + 'checker: cannot read standard input\n',
+             building('target/bin/checker is not the file that was built', []) + some, kit='real',
+             before=f'cp "$ROOM/main.rt" {main}; cp "$ROOM/checker.built" target/bin/', after='cmp "$ROOM/checker" target/bin/checker'),
+    ]
+
+
+def all_cases(crates, library, kit):
+    """crates and library: what the program and the library for C are made from, in order. kit: what rt version prints, escaped."""
+    return [*answers(), *options(), *descriptors(crates), *names(), *old_products(crates), *kept_products(), *failing_builds(crates), *wrong_lines(),
+            *several_at_once(crates), *without(kit), *recorded(crates), *products(crates, library), *real(crates)]
