@@ -5,7 +5,6 @@
 # used and is built again. Whoever reads this file sets `root`, the repository's folder, and `self`, the name before each sentence.
 # shellcheck shell=bash disable=SC2154
 set -f -o pipefail
-unset CDPATH
 trap : PIPE # nobody may be reading what is written: then writing fails, and nothing ends unseen
 
 # The kit that this edition was proved with, as `rt version` prints it.

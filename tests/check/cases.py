@@ -4,7 +4,7 @@ command  what is tried, in bash, in the copy's folder
 status   what it has to end with
 out      what it has to print
 err      what it has to say: a regular expression for all of it
-before   what is done first. `says TEXT [STATUS]` has the next build make a program that prints TEXT and ends with STATUS
+before   what is done first. `says TEXT` has later builds make a program that prints TEXT
 builds   how often rt is called to build something
 after    what has to hold at the end, in bash
 kit      fake; none: there is no rt; real: the kit's own rt, and the copy of the real case before, which has all that rt built
@@ -64,12 +64,17 @@ def answers():
     ]
 
 
-def options():
+def options(version):
+    headed = Case('--version, as the header has it', './check --version > v; s=$?; head -n 1 v; exit $s', 0, f'hromulice {version}\n')
+    if not version:
+        headed = Case('--version, which the header does not have', './check --version', 2, err='check: {repo}/include/hromulice.h names no version\n')
     return [
+        headed,
         Case('no argument on a terminal', './check', 2, err=USAGE, terminal=True),
         Case('an unknown option', './check --frobnicate samples/p1.batch', 2, err='check: --frobnicate is no option\n' + USAGE),
         Case('an unknown option behind a file', './check samples/p1.batch -x', 2, err='check: -x is no option\n' + USAGE),
-        Case('--help', './check --help > help; s=$?; grep -c -e "accept, and" -e "layout and the buffers alone" -e "little-endian" -e "^Status: 0 .* 1 .* 2 " help; exit $s', 0, '4\n'),
+        Case('--help', './check --help > help; s=$?; grep -c -e "accept, and" -e "layout and the buffers alone" -e little-endian -e "^Status: 0 .* 1 .* 2 " help; exit $s',
+             0, '4\n'),
         Case('--help, nothing built', './check --help > /dev/null', 0, before='rm -r target', after='[[ ! -e target ]]'),
         Case('--help, full', './check --help > /dev/full', 2, err=UNWRITTEN),
         Case('--help, closed', './check --help >&-', 2, err='check: standard output is closed\n'),
@@ -110,18 +115,19 @@ def descriptors(crates):
 
 
 def names():
-    quoted = "\"\\$'a: accept 1 1 1 1\\\\\\\\nb'\""
     return [
         Case('another folder', 'cd samples && ../check p1.batch', 0, P1),
         Case('the root folder', 'here=$PWD; cd / && "$here/check" "$here/samples/p1.batch"', 0, P1),
         Case('a link', 'ln -s "$PWD/check" "$ROOM/link"; cd / && "$ROOM/link" "$OLDPWD/samples/p1.batch"', 0, P1),
-        Case('relative links in a chain', 'mkdir -p "a b/c"; ln -s ../../samples/up "a b/c/first"; ln -s ../check samples/up; cd "a b" && c/first ../samples/p1.batch', 0, P1),
+        Case('relative links in a chain', 'cd "a b" && c/first ../samples/p1.batch', 0, P1,
+             before='mkdir -p "a b/c"; ln -s ../../samples/up "a b/c/first"; ln -s ../check samples/up'),
         Case('found on the PATH', 'mkdir on; ln -s ../check on/check-batch; cd samples && PATH=$PATH:$PWD/../on check-batch p1.batch', 0, P1),
         Case('CDPATH', 'CDPATH=$PWD:/ bash samples/../check samples/p1.batch', 0, P1),
         Case('CDPATH, to be built', 'CDPATH=$PWD:/ bash samples/../check samples/p1.batch 2> /dev/null', 0, P1, before=ADD + 'crates/rows/src/lib.rt', builds=1),
         Case('a repository whose name has a blank, quotes and a line feed', '"$ROOM/$odd/check" "$ROOM/$odd/samples/p1.batch" 2> /dev/null', 0, P1,
              before='''odd=$'a "b\\' c\\n'; rm -rf "$ROOM/$odd"; cp -a . "$ROOM/$odd"; echo >> "$ROOM/$odd/crates.txt"''', builds=1),
-        Case('a blank and quotes', '''cp samples/p1.batch $'a "b\\' c'; ./check $'a "b\\' c' samples/p1.batch''', 0, '''a "b' c: accept 2960 2960 0 0\nsamples/p1.batch: ''' + P1),
+        Case('a blank and quotes', '''cp samples/p1.batch $'a "b\\' c'; ./check $'a "b\\' c' samples/p1.batch''', 0,
+             '''a "b' c: accept 2960 2960 0 0\nsamples/p1.batch: ''' + P1),
         Case('a line feed', r'''f=$'a: accept 1 1 1 1\nb'; cp samples/vector_below.batch "$f"; ./check "$f"''', 1, BELOW),
         Case('a line feed, among several', r'''f=$'a: accept 1 1 1 1\nb'; cp samples/vector_below.batch "$f"; ./check "$f" "$f" none''', 2,
              2 * (r"$'a: accept 1 1 1 1\nb': " + BELOW), 'check: none cannot be read: .*\n'),
@@ -156,6 +162,8 @@ def old_products(crates):
         ('a file has another name', 'mv crates/stream/src/lib.rt crates/stream/src/lib2.rt', CHANGED),
         ('two files are exchanged', 'cd crates/batch/src; set -- *.rt; mv $1 x; mv $2 $1; mv x $2; cd ../../..', CHANGED),
         ("the program's input changed", 'printf x >> crates/checker/stdin', CHANGED),
+        ('a crate changed that another one needs',
+         "sed -i 's/^checker:.*/checker: stream bytes io libc/' crates.txt; ./check samples/p1.batch; " + ADD + 'crates/fields/src/lib.rt', CHANGED),
         ('crates.txt changed', 'echo "# changed" >> crates.txt', CHANGED),
         ('a date was put back', 'touch -r crates/rows/src/lib.rt t; ' + ADD + 'crates/rows/src/lib.rt; touch -r t crates/rows/src/lib.rt', CHANGED),
         ('another kit', 'export FAKE_KIT="fake kit 2"', 'it was built by another kit, fake kit 1'),
@@ -208,6 +216,8 @@ def failing_builds(crates):
         Case('a link among the sources', './check samples/p1.batch', 2,
              before='mv crates/rows/src/lib.rt lib.rt; ln -s ../../../lib.rt crates/rows/src/lib.rt; ' + ADD + 'lib.rt',
              err=start + 'check: crates/rows/src/lib.rt is a symbolic link, and rt follows none: .*\n'),
+        Case('a lock that cannot be opened, POSIX mode', 'POSIXLY_CORRECT=1 ./check samples/p1.batch', 2, before=changed + 'rm -f target/build.lock; mkdir target/build.lock',
+             err='check: {repo}/target/build.lock cannot be written\n'),
         Case('an unreadable source', '$NOBODY ./check samples/p1.batch', 2, before='chmod 0 crates/rows/src/lib.rt',
              err='check: the sources in {repo}/crates cannot be read\n'),
         Case('no crates.txt', './check samples/p1.batch', 2, before='rm crates.txt', err='check: {repo}/crates.txt cannot be read\n'),
@@ -222,18 +232,21 @@ def wrong_lines():
                    before=f"{ADD}crates/fields/src/lib.rt; says '{said}'; ./check samples/p1.batch")
     for name, said in [('no line feed', 'printf "accept 1 2 3 4"'), ('status 1', 'echo accept 1 2 3 4; exit 1'), ('a signal', 'echo accept 1 2 3 4; kill -9 $$'),
                        ('a complaint beside the line', 'echo accept 1 2 3 4; echo so >&2')]:
-        yield Case(f'the program ends with {name}', './check samples/p1.batch 2> said; s=$?; grep -c "^check: samples/p1.batch: the program .* no answer" said; exit $s', 2, '1\n',
-                   before=f"{ADD}crates/fields/src/lib.rt; printf '#!/bin/sh\\n%s\\n' '{said}' > \"$ROOM/other\"; export FAKE_PRODUCT=$ROOM/other; ./check samples/p1.batch")
+        yield Case(f'the program ends with {name}', './check samples/p1.batch', 2, err='(?s)(.*\n)?check: samples/p1.batch: the program .* no answer: [^\n]*\n',
+                   before=f"{ADD}crates/fields/src/lib.rt; says x; printf '#!/bin/sh\\n%s\\n' '{said}' > $FAKE_PRODUCT; ./check samples/p1.batch")
 
 
 def several_at_once(crates):
     changed = ADD + 'crates/fields/src/lib.rt; export FAKE_DOES=waits'
     once = '(?s)(?!(.*building the checker){2})(?=.*building the checker)(?=.*waiting for another build to end).*'
     interrupted = 'timeout -s {} 0.6 ./check samples/p1.batch 2> /dev/null; [[ -e target/bin/checker.built ]] || FAKE_DOES= ./check samples/p1.batch 2> /dev/null'
+    two = './check samples/p1.batch & ./check samples/p1.batch; s=$?; wait $! && exit $s'
     return [
-        Case('two at once', './check samples/p1.batch & ./check samples/p1.batch; s=$?; wait $! && exit $s', 0, 2 * P1, once, changed, 1),
-        Case('two at once, nothing built', './check samples/p1.batch & ./check samples/p1.batch; s=$?; wait $! && exit $s', 0, 2 * P1, once, 'rm -r target; export FAKE_DOES=waits', 1),
-        Case('two at once that are built', './check samples/p1.batch & ./check samples/p1.batch; s=$?; wait $! && exit $s', 0, 2 * P1),
+        Case('two at once', two, 0, 2 * P1, once, changed, 1),
+        Case('two at once, nothing built', two, 0, 2 * P1, once, 'rm -r target; export FAKE_DOES=waits', 1),
+        Case('two at once that are built', two, 0, 2 * P1),
+        Case('rt has failed, and what it started goes on', 'FAKE_DOES=lingers ./check samples/p1.batch 2> /dev/null; ./check samples/p1.batch', 0, P1,
+             'check: waiting for another build to end\n' + building('it is not built yet', crates), ADD + 'crates/fields/src/lib.rt', 2),
         Case('interrupted', interrupted.format('INT'), 0, P1, before=changed, builds=2),
         Case('terminated', interrupted.format('TERM'), 0, P1, before=changed, builds=2),
         Case('killed, and rt goes on', './check samples/p1.batch 2> /dev/null & sleep 0.5; kill -9 $!; wait $! 2> /dev/null; FAKE_DOES= ./check samples/p1.batch', 0,
@@ -252,10 +265,12 @@ def without(kit):
         Case('an rt that does not run', './check samples/p1.batch', 2, kit='none', err=needs.replace('{why}', CHANGED),
              before=ADD + 'crates/fields/src/lib.rt; mkdir bad; printf "#!/bin/sh\\nexit 2\\n" > bad/rt; chmod +x bad/rt; PATH=$PWD/bad:$PATH'),
         Case('read-only, built', '$NOBODY ./check samples/p1.batch', 0, P1, before='chmod -R a-w .'),
-        Case('read-only, several files', '$NOBODY ./check samples/p1.batch - < samples/vector_below.batch', 1, 'samples/p1.batch: ' + P1 + '-: ' + BELOW, before='chmod -R a-w .'),
+        Case('read-only, several files', '$NOBODY ./check samples/p1.batch - < samples/vector_below.batch', 1, 'samples/p1.batch: ' + P1 + '-: ' + BELOW,
+             before='chmod -R a-w .'),
         Case('read-only, to be built', '$NOBODY ./check samples/p1.batch', 2, before=ADD + 'crates/fields/src/lib.rt; chmod -R a-w .',
              err=unwritable.replace('{why}', CHANGED)),
-        Case('read-only, nothing built', '$NOBODY ./check samples/p1.batch', 2, before='rm -r target; chmod -R a-w .', err=unwritable.replace('{why}', 'it is not built yet')),
+        Case('read-only, nothing built', '$NOBODY ./check samples/p1.batch', 2, before='rm -r target; chmod -R a-w .',
+             err=unwritable.replace('{why}', 'it is not built yet')),
     ]
 
 
@@ -300,7 +315,8 @@ def real(crates):
     change = f"sed -i 's/checker: cannot read standard input/checker: cannot READ standard input/' {main}; "
     return [
         Case('real: recorded as rt built it', './check --built && ./check samples/p1.batch', 0, P1, kit='real', before='rm -f target/bin/checker.built'),
-        Case('real: does not compile', './check samples/p1.batch', 2, err='(?s)check: building .*rt: checker NOT PROVED.*\ncheck: the checker was not built .*\n', kit='real',
+        Case('real: does not compile', './check samples/p1.batch', 2, kit='real',
+             err='(?s)check: building .*rt: checker NOT PROVED.*\ncheck: the checker was not built .*\n',
              before=f'cp -a {main} target/bin/checker target/bin/checker.built "$ROOM"; echo "fn (" >> {main}', after=NO_RECORD),
         Case('real: sources changed', f'./check samples/p1.batch; ./check samples/p1.batch; {said}', 0, 2 * P1 + 'checker: cannot READ standard input\n',
              building('it is not built yet', []) + some, kit='real', before=f'cp "$ROOM/main.rt" {main}; {change}'),
@@ -310,7 +326,8 @@ def real(crates):
     ]
 
 
-def all_cases(crates, library, kit):
-    """crates and library: what the program and the library for C are made from, in order. kit: what rt version prints, escaped."""
-    return [*answers(), *options(), *descriptors(crates), *names(), *old_products(crates), *kept_products(), *failing_builds(crates), *wrong_lines(),
+def all_cases(crates, library, kit, version):
+    """crates and library: what the program and the library for C are made from, in order. kit: the one that is asked for, as a regular
+    expression. version: the one that the header has, or None."""
+    return [*answers(), *options(version), *descriptors(crates), *names(), *old_products(crates), *kept_products(), *failing_builds(crates), *wrong_lines(),
             *several_at_once(crates), *without(kit), *recorded(crates), *products(crates, library), *real(crates)]
