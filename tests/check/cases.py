@@ -1,4 +1,4 @@
-"""The cases of ./check. A case has a copy of the repository of its own, built, and tests/check/rt in place of the kit's rt.
+"""The cases of ./check. A case has a copy of the repository, built, and stubs/rt in place of the kit's rt.
 
 command  what is tried, in bash, in the copy's folder
 status   what it has to end with
@@ -216,8 +216,8 @@ def failing_builds(crates):
         Case('a link among the sources', './check samples/p1.batch', 2,
              before='mv crates/rows/src/lib.rt lib.rt; ln -s ../../../lib.rt crates/rows/src/lib.rt; ' + ADD + 'lib.rt',
              err=start + 'check: crates/rows/src/lib.rt is a symbolic link, and rt follows none: .*\n'),
-        Case('a lock that cannot be opened, POSIX mode', 'POSIXLY_CORRECT=1 ./check samples/p1.batch', 2, before=changed + 'rm -f target/build.lock; mkdir target/build.lock',
-             err='check: {repo}/target/build.lock cannot be written\n'),
+        Case('a lock that cannot be opened, POSIX mode', 'POSIXLY_CORRECT=1 ./check samples/p1.batch', 2,
+             before=changed + 'rm -f target/build.lock; mkdir target/build.lock', err='check: {repo}/target/build.lock cannot be written\n'),
         Case('an unreadable source', '$NOBODY ./check samples/p1.batch', 2, before='chmod 0 crates/rows/src/lib.rt',
              err='check: the sources in {repo}/crates cannot be read\n'),
         Case('no crates.txt', './check samples/p1.batch', 2, before='rm crates.txt', err='check: {repo}/crates.txt cannot be read\n'),
@@ -308,6 +308,37 @@ def products(crates, library):
     ]
 
 
+def runners(crates, library):
+    """The tests that build what they run on, in a repository where nothing is built, with stubs/cargo and stubs/clang."""
+    made_library = building('it is not built yet', library, 'build', 'the library for C')
+    made = building('it is not built yet', crates, 'build') + made_library
+    lib = 'cargo: HROMULICE_LIB_DIR={}\n'
+    nothing = 'rm -r target; PATH=$ROOM/compilers:$PATH; '
+    asked = '--seed {} --count {} --program REPO/target/bin/checker --runs {}\n'
+    return [
+        Case('tests/differential/run', 'cd samples && ../tests/differential/run', 0, asked.format(1, 100000, 4000), made + lib.format(''), nothing, 2),
+        Case('tests/differential/run with numbers', 'tests/differential/run 3 4 5', 0, asked.format(3, 4, 5), made + lib.format(''), nothing, 2),
+        Case('tests/differential/run, library and program given', 'cd samples && HROMULICE_LIB_DIR=.. HROMULICE_CHECKER=given ../tests/differential/run 3 4 5', 0,
+             asked.format(3, 4, 5).replace('target/bin/checker', 'samples/given'), lib.format('{repo}'),
+             nothing + 'touch libhromulice.a; cp "$FAKE_PRODUCT" samples/given'),
+        Case('tests/differential/run, no such library', 'HROMULICE_LIB_DIR=samples tests/differential/run', 1,
+             err='differential: HROMULICE_LIB_DIR: there is no samples/libhromulice.a\n', before=nothing),
+        Case('tests/differential/run, words', 'tests/differential/run three', 1, err='differential: usage: .*\n', before=nothing),
+        Case('tests/differential/run without cargo', 'tests/differential/run', 1, err='differential: cargo is missing\n', before='rm -r target'),
+        Case('tests/differential/run, not proved', 'FAKE_DOES=fails tests/differential/run 2> said; s=$?; tail -n 1 said; exit $s', 1,
+             'differential: there is nothing to compare\n', before=nothing, builds=1),
+        Case('tests/fuzz/run', 'cd samples && ../tests/fuzz/run 7 3', 0, 'Done -seed=3 -max_total_time=7\n',
+             made_library + 2 * lib.format('{repo}/target/staticlib'), nothing, 1),
+        Case('tests/fuzz/run, library given', 'cd samples && HROMULICE_LIB_DIR=.. ../tests/fuzz/run', 0, 'Done -seed=1 -max_total_time=60\n', 2 * lib.format('{repo}'),
+             nothing + 'touch libhromulice.a'),
+        Case('tests/fuzz/run, words', 'tests/fuzz/run long', 1, err='fuzz: usage: .*\n', before=nothing),
+        Case('tests/fuzz/run without clang', 'tests/fuzz/run', 1, err='fuzz: clang is missing .*\n',
+             before=nothing + 'PATH=$PWD/on:${PATH#*:}; mkdir on; ln -s "$ROOM/compilers/cargo" on'),
+        Case('tests/fuzz/run without libFuzzer', 'tests/fuzz/run', 1, err='fuzz: clang has no libFuzzer .*\n',
+             before=nothing + 'mkdir on; PATH=$PWD/on:$PATH; printf "#!/bin/sh\\necho none\\n" > on/clang; chmod +x on/clang'),
+    ]
+
+
 def real(crates):
     """With the kit's own rt, one after the other on one copy."""
     main, said = 'crates/checker/src/main.rt', "target/bin/checker 0> written 2>&1 | cat"
@@ -330,4 +361,4 @@ def all_cases(crates, library, kit, version):
     """crates and library: what the program and the library for C are made from, in order. kit: the one that is asked for, as a regular
     expression. version: the one that the header has, or None."""
     return [*answers(), *options(version), *descriptors(crates), *names(), *old_products(crates), *kept_products(), *failing_builds(crates), *wrong_lines(),
-            *several_at_once(crates), *without(kit), *recorded(crates), *products(crates, library), *real(crates)]
+            *several_at_once(crates), *without(kit), *recorded(crates), *products(crates, library), *runners(crates, library), *real(crates)]

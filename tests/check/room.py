@@ -1,4 +1,4 @@
-"""The folder that the cases of ./check run in: copies of the repository, the stand-in for rt, and the commands that ./check may use."""
+"""The folder that the cases of ./check run in: copies of the repository, stand-ins, and the commands that ./check may use."""
 import os
 import pathlib
 import shutil
@@ -7,7 +7,7 @@ import sys
 
 root = pathlib.Path(__file__).resolve().parent.parent.parent
 TOOLS = '''bash cat chmod cmp cp cut dirname env find flock grep head ln mkdir mktemp mv readlink rm sed setpriv sh sha256sum sleep sort stat
-    tail timeout touch true xargs'''.split()
+    tail tee timeout touch true xargs'''.split()
 
 
 def made_from(name):
@@ -37,7 +37,7 @@ def remove(folder):
 
 
 class Room:
-    """A temporary folder with the copies, the stand-in for rt and the commands that ./check may use."""
+    """kit/ has the stand-in for rt, compilers/ those for cargo and clang, tools/ the other commands."""
 
     def __init__(self, folder, script):
         self.folder = folder
@@ -50,11 +50,12 @@ class Room:
             'NOBODY': 'setpriv --reuid=65534 --regid=65534 --clear-groups --no-new-privs' if os.geteuid() == 0 else '',
         }
         folder.chmod(0o755)
-        for name in ['tools', 'kit', 'order']:
+        for name in ['tools', 'kit', 'compilers', 'order']:
             (folder / name).mkdir()
         for tool in TOOLS:
             (folder / 'tools' / tool).symlink_to(shutil.which(tool) or sys.exit(f'tests/check/run: {tool} is missing'))
-        shutil.copy(root / 'tests' / 'check' / 'rt', folder / 'kit' / 'rt')
+        for name, place in [('rt', 'kit'), ('cargo', 'compilers'), ('clang', 'compilers')]:
+            shutil.copy(root / 'tests' / 'check' / 'stubs' / name, folder / place / name)
         shutil.copy(root / 'target' / 'bin' / 'checker', folder / 'checker')
         for name in ['checker', 'hromulice']:
             (folder / 'order' / name).write_text('\n'.join(made_from(name)) + '\n')
@@ -79,7 +80,7 @@ class Room:
                 files = sorted(f for f in (crate / folder).rglob('*') if f.is_file())
                 for file in [f for f in files if f.name not in ('lib.rt', 'main.rt')][1:]:
                     file.unlink()
-        for folder in ['benchmark', 'c', 'differential', 'fuzz']:
+        for folder in ['benchmark', 'c']:
             shutil.rmtree(target / 'tests' / folder)
         subprocess.run(['find', target, '-depth', '-type', 'd', '-empty', '-delete'], check=True)
 
