@@ -194,16 +194,6 @@ fn large_pictures() {
     }
 }
 
-/// The number of document 01 itself.
-#[test]
-#[ignore = "reads 16 GiB of zero pages"]
-fn more_than_4294967295_words() {
-    let zeros = vec![0u32; 4_294_967_296];
-    let refused = |number: u8| Report { number, place: 4_294_967_295, lengths: [0; 4] };
-    assert_eq!(check(&zeros[..4_294_967_295], [0; 4]), refused(1));
-    assert_eq!(check(&zeros, [0; 4]), refused(27));
-}
-
 /// "27 stands in place of 1 and comes before 13, and no word beyond is judged", with fewer words in place of 4294967295.
 #[test]
 fn too_many_words() {
