@@ -4,7 +4,8 @@ command  what is tried, in bash, in the copy's folder
 status   what it has to end with
 out      what it has to print
 err      what it has to say: a regular expression for all of it
-before   what is done first. `says TEXT` has later builds make a program that prints TEXT
+before   what is done first. `says TEXT` has later builds make a program that prints TEXT; `no_reader` makes descriptor 4 a pipe that nobody
+         reads; `wait_for COMMAND` tries until it succeeds
 builds   how often rt is called to build something
 after    what has to hold at the end, in bash
 kit      fake; none: there is no rt; real: the kit's own rt, and the copy of the real case before, which has all that rt built
@@ -91,7 +92,6 @@ def options(version):
 
 def descriptors(crates):
     changed = ADD + 'crates/fields/src/lib.rt'
-    gone = '(sleep 0.3; ./check samples/p1.batch {}; echo "ended with $?" >&2) | true'
     return [
         Case('standard input closed', './check <&-', 2, err='check: standard input cannot be read: it is closed\n'),
         Case('standard input closed, nothing built', './check - <&-', 2, err='check: standard input cannot be read: it is closed\n', before='rm -r target'),
@@ -101,12 +101,11 @@ def descriptors(crates):
         Case('standard output full', './check samples/p1.batch > /dev/full', 2, err=UNWRITTEN),
         Case('standard output full, several files', './check samples/p1.batch samples/vector_below.batch > /dev/full', 2, err=UNWRITTEN),
         Case('standard output full, refused', './check samples/vector_below.batch > /dev/full', 2, err=UNWRITTEN),
-        Case('nobody reads standard output', gone.format(''), 0, err=UNWRITTEN + 'ended with 2\n'),
+        Case('nobody reads standard output', './check samples/p1.batch >&4', 2, err=UNWRITTEN, before='no_reader'),
         Case('standard error closed', './check samples/p1.batch 2>&-', 0, P1),
         Case('standard error closed, refused', './check none samples/vector_below.batch 2>&-', 2, 'samples/vector_below.batch: ' + BELOW),
         Case('standard error closed, to be built', './check samples/p1.batch 2>&-', 0, P1, before=changed, builds=1),
-        Case('nobody reads standard error, to be built', '{ (sleep 0.3; ./check samples/p1.batch 2>&1 >&3; echo "ended with $?" >&3) | true; } 3>&1', 0,
-             P1 + 'ended with 0\n', before=changed, builds=1),
+        Case('nobody reads standard error, to be built', './check samples/p1.batch 2>&4', 0, P1, before='no_reader; ' + changed, builds=1),
         Case('all closed', './check samples/p1.batch <&- >&- 2>&-', 2),
         Case('standard input that may only be written', './check 0> written', 2, err='check: standard input cannot be read\n'),
         Case('a directory as standard input', './check < samples', 2, err='check: standard input cannot be read: it is a directory\n'),
@@ -237,20 +236,25 @@ def wrong_lines():
 
 
 def several_at_once(crates):
-    changed = ADD + 'crates/fields/src/lib.rt; export FAKE_DOES=waits'
+    """The stand-in for rt waits until the other ./check has been seen to wait."""
+    changed = ADD + 'crates/fields/src/lib.rt; '
+    waits = 'export FAKE_DOES=waits; '
+    two = './check samples/p1.batch 2> one & p=$!; ./check samples/p1.batch 2> two & q=$!; {} touch "$ROOM/go"; wait $p && wait $q; s=$?; cat one two >&2; exit $s'
     once = '(?s)(?!(.*building the checker){2})(?=.*building the checker)(?=.*waiting for another build to end).*'
-    interrupted = 'timeout -s {} 0.6 ./check samples/p1.batch 2> /dev/null; [[ -e target/bin/checker.built ]] || FAKE_DOES= ./check samples/p1.batch 2> /dev/null'
-    two = './check samples/p1.batch & ./check samples/p1.batch; s=$?; wait $! && exit $s'
+    second = './check samples/p1.batch 2> said & wait_for grep -q waiting said; touch "$ROOM/go"; wait $!; s=$?; cat said >&2; exit $s'
+    stopped = 'set -m; ./check samples/p1.batch 2> /dev/null & wait_for test -s "$FAKE_LOG"; kill -{} -- {}$!; wait $! 2> /dev/null; set +m; '
+    again = '[[ -e target/bin/checker.built ]] || FAKE_DOES= ./check samples/p1.batch 2> /dev/null'
+    waited = 'check: waiting for another build to end\n'
     return [
-        Case('two at once', two, 0, 2 * P1, once, changed, 1),
-        Case('two at once, nothing built', two, 0, 2 * P1, once, 'rm -r target; export FAKE_DOES=waits', 1),
-        Case('two at once that are built', two, 0, 2 * P1),
-        Case('rt has failed, and what it started goes on', 'FAKE_DOES=lingers ./check samples/p1.batch 2> /dev/null; ./check samples/p1.batch', 0, P1,
-             'check: waiting for another build to end\n' + building('it is not built yet', crates), ADD + 'crates/fields/src/lib.rt', 2),
-        Case('interrupted', interrupted.format('INT'), 0, P1, before=changed, builds=2),
-        Case('terminated', interrupted.format('TERM'), 0, P1, before=changed, builds=2),
-        Case('killed, and rt goes on', './check samples/p1.batch 2> /dev/null & sleep 0.5; kill -9 $!; wait $! 2> /dev/null; FAKE_DOES= ./check samples/p1.batch', 0,
-             P1, r'check: waiting for another build to end\n' + building('nothing says what target/bin/checker was built from', crates), changed, 2),
+        Case('two at once', two.format('wait_for grep -q waiting one two;'), 0, 2 * P1, once, changed + waits, 1),
+        Case('two at once, nothing built', two.format('wait_for grep -q waiting one two;'), 0, 2 * P1, once, 'rm -r target; ' + waits, 1),
+        Case('two at once that are built', two.format(''), 0, 2 * P1),
+        Case('interrupted', stopped.format('INT', '-') + again, 0, P1, before=changed + waits, builds=2),
+        Case('terminated', stopped.format('TERM', '-') + again, 0, P1, before=changed + waits, builds=2),
+        Case('killed, and rt goes on', stopped.format('KILL', '') + 'FAKE_DOES= ' + second, 0, P1,
+             waited + building('nothing says what target/bin/checker was built from', crates), changed + waits, 2),
+        Case('rt has failed, and what it started goes on', 'FAKE_DOES=lingers ./check samples/p1.batch 2> /dev/null; ' + second, 0, P1,
+             waited + building('it is not built yet', crates), changed, 2),
     ]
 
 

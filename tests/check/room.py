@@ -6,7 +6,7 @@ import subprocess
 import sys
 
 root = pathlib.Path(__file__).resolve().parent.parent.parent
-TOOLS = '''bash cat chmod cmp cp cut dirname env find flock grep head ln mkdir mktemp mv readlink rm sed setpriv sh sha256sum sleep sort stat
+TOOLS = '''bash cat chmod cmp cp cut dirname env find flock grep head ln mkdir mkfifo mktemp mv readlink rm sed setpriv sh sha256sum sleep sort stat
     tail tee timeout touch true xargs'''.split()
 
 
@@ -45,7 +45,7 @@ class Room:
         self.used = True
         self.environment = {
             'ROOM': str(folder), 'HOME': str(folder), 'TMPDIR': str(folder), 'LC_ALL': 'C', 'FAKE_KIT': 'fake kit 1', 'FAKE_LOG': str(folder / 'log'),
-            'FAKE_ORDER': str(folder / 'order'), 'FAKE_PRODUCT': str(folder / 'checker'),
+            'FAKE_GO': str(folder / 'go'), 'FAKE_ORDER': str(folder / 'order'), 'FAKE_PRODUCT': str(folder / 'checker'),
             **{name: os.environ[name] for name in ['RATTLE_HOME', 'RT_JOBS'] if name in os.environ},
             'NOBODY': 'setpriv --reuid=65534 --regid=65534 --clear-groups --no-new-privs' if os.geteuid() == 0 else '',
         }
@@ -75,13 +75,17 @@ class Room:
 
     def make_thin(self, target):
         """Leaves two files of each source folder: a copy is made for each case, and nothing of it is proved."""
-        for crate in (target / 'crates').iterdir():
+        for crate in list((target / 'crates').iterdir()):
+            if crate.name.endswith('_cases'):
+                shutil.rmtree(crate)
+                continue
             for folder in ['src', 'specs', 'proofs', 'must-fail']:
                 files = sorted(f for f in (crate / folder).rglob('*') if f.is_file())
                 for file in [f for f in files if f.name not in ('lib.rt', 'main.rt')][1:]:
                     file.unlink()
-        for folder in ['benchmark', 'c']:
-            shutil.rmtree(target / 'tests' / folder)
+        for file in (target / 'tests').rglob('*'):
+            if file.is_file() and file.name not in ('build', 'run'):
+                file.unlink()
         subprocess.run(['find', target, '-depth', '-type', 'd', '-empty', '-delete'], check=True)
 
     def build_thin(self, target):
@@ -91,6 +95,7 @@ class Room:
     def prepare(self, case):
         """The copy of a case. Real cases share one, and a copy that no case has changed is used again."""
         if case.kit != 'real':
+            (self.folder / 'go').unlink(missing_ok=True)
             if self.used:
                 remove(self.repo)
                 copy(self.folder / 'built', self.repo)
