@@ -27,10 +27,6 @@ use Rattle.judging.specs.Judging.{rulesOf, nextOf, judge}
 use Rattle.batch.specs.Walk.{going, limit, after, step}
 use Rattle.batch.proofs.WalkLaws.{command}
 
-begins-macroblock : (w : ℕ) → w ≡ macroblockHeader → headerOf w ≡ Known Macroblock 9
-unfolding headerOf lookUp table
-begins-macroblock w e = ap headerOf e
-
 -- a MACROBLOCK command that keeps its rules is judged so
 kept : (p : Progress) (c : List ℕ) → judged (macroblockRules p c) ≡ Accepted → judge (Known Macroblock 9) p c ≡ Next (macroblockNext p c)
 unfolding judge rulesOf nextOf
@@ -42,7 +38,7 @@ one : (at : ℕ) (p : Progress) (c ws : List ℕ) → p .stage .ended ≡ false 
 unfolding after
 one at p c ws e l nine h a =
     let len = length-append c ws in
-    let first : headerOf (wordAt (c ++ ws) 0) ≡ Known Macroblock 9 = begins-macroblock (wordAt (c ++ ws) 0) (List·getD-append c ws 0 0 (omega arith) ∙ h) in
+    let first : headerOf (wordAt (c ++ ws) 0) ≡ Known Macroblock 9 = ap headerOf (List·getD-append c ws 0 0 (omega arith) ∙ h) ∙ (unfold headerOf lookUp table in refl) in
     command at p e 9 (c ++ ws) (Known Macroblock 9) l (omega arith) (omega arith) first refl
     ∙ ap₂ (λ (v : Verdict) (x : List ℕ). foldl step (after at (at + 9) v) x)
     (ap (judge (Known Macroblock 9) p) (take-at c ws 9 nine) ∙ kept p c a)

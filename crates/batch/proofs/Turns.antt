@@ -34,10 +34,6 @@ turn base at n p ws h v e l some m s c j =
     rw (← j, n', ← drop-drop n at ws, ← add-assoc base at n)
     (command (base + at) p e n (drop at ws) h (omega arith) some (omega arith) (ap headerOf (word-there at ws) ∙ s) c)
 
-begins-noop : (w : ℕ) → w ≡ 0 → headerOf w ≡ Known Noop 1
-unfolding headerOf lookUp table
-begins-noop w e = ap headerOf e
-
 module _ (base at : ℕ) (p : Progress) (ws : List ℕ) (l : base + length ws ≤ limit) (m : at < length ws) where
   first-word : foldl step (going (base + at) p []) (drop at ws)
       ≡ foldl step (step (going (base + at) p []) (wordAt ws at)) (drop (at + 1) ws)
@@ -52,7 +48,7 @@ module _ (base at : ℕ) (p : Progress) (ws : List ℕ) (l : base + length ws �
       by true e =
           first-word
           ∙ simp (add-zero, lt-leb limit (base + at) (omega arith), e, eq-eqb (wordAt ws at) 0 z, ← add-assoc base at 1)
-      by false e = turn base at 1 p ws (Known Noop 1) (Next p) e l (omega arith) (omega arith) (begins-noop (wordAt ws at) z) refl (noop-passes 1 p _)
+      by false e = turn base at 1 p ws (Known Noop 1) (Next p) e l (omega arith) (omega arith) (ap headerOf z ∙ (unfold headerOf lookUp table in refl)) refl (noop-passes 1 p _)
 
   -- another word after END
   pub turn-behind : p .stage .ended ≡ true → (wordAt ws at ≡ 0 → ⊥)
