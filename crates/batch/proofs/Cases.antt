@@ -75,54 +75,54 @@ moved code v =
     ++ (0x05000000 ∷ [])
 
 -- P8 to P13 do not name the lengths of buffers 0 and 1. There the two macroblocks touch their own samples, of which Cr (15, 7) is
--- the highest byte: (16 + 7)·128 + 2·15 + 1 = 2975. P12 and P13 name no place: it is word 5 of the first macroblock, word 32.
+-- the highest byte: row 16 + 7, column 2·15 + 1, at 512 + 23·16 + 15 = 895. P12 and P13 name no place: it is word 5 of the first macroblock, word 32.
 cases : List Case
 cases =
-    -- P1: "Record: 8 zero bytes, 3F 00 00 01 0F, 11 zero bytes"
+    -- P1: "P1 becomes 384 384 0 0" (document 02). "Record: 8 zero bytes, 3F 00 00 01 0F, 11 zero bytes"
     record {
       words = p1;
-      lengths = buffers 2960 2960 0 0;
+      lengths = buffers 384 384 0 0;
       commands = 27 ∷ [];
       number = 0;
       place = 0;
-      reported = four 2960 2960 0 0;
+      reported = four 384 384 0 0;
       records = (zeros 8 ++ (0x3F ∷ 0x00 ∷ 0x00 ∷ 0x01 ∷ 0x0F ∷ []) ++ zeros 11) ∷ [];
     }
-    -- P2: "buffer 1 at 2959: 13, place 1"
+    -- P2: "buffer 1 at 2959: 13, place 1"; document 02: "P2 uses 383"
     ∷ record {
       words = p1;
-      lengths = buffers 2960 2959 0 0;
+      lengths = buffers 384 383 0 0;
       commands = [];
       number = 13;
       place = 1;
-      reported = four 2960 2960 0 0;
+      reported = four 384 384 0 0;
       records = [];
     }
     -- P3: "empty: 1 at 0"
-    ∷ refused [] (buffers 2960 2960 0 0) 1 0
+    ∷ refused [] (buffers 384 384 0 0) 1 0
     -- P4: "P1 without END: 1 at 36"
-    ∷ refused (take 36 p1) (buffers 2960 2960 0 0) 1 36
+    ∷ refused (take 36 p1) (buffers 384 384 0 0) 1 36
     -- P5: "END alone: 3 at 0"
-    ∷ refused (0x05000000 ∷ []) (buffers 2960 2960 0 0) 3 0
+    ∷ refused (0x05000000 ∷ []) (buffers 384 384 0 0) 3 0
     -- P6: "word 32 set to 1: 8 at 32"
-    ∷ refused (set p1 32 1) (buffers 2960 2960 0 0) 8 32
+    ∷ refused (set p1 32 1) (buffers 384 384 0 0) 8 32
     -- P7: "word 31 C5000000: 5 at 31"
-    ∷ refused (set p1 31 0xC5000000) (buffers 2960 2960 0 0) 5 31
-    -- P8: "(0,0) 2960"
-    ∷ accepted (moved 3 0x00000000) (buffers 2976 2976 2960 0) (four 2976 2976 2960 0)
-    -- P9: "(1,0) 2960"
-    ∷ accepted (moved 3 0x00000001) (buffers 2976 2976 2960 0) (four 2976 2976 2960 0)
-    -- P10: "(2,0) 2962"
-    ∷ accepted (moved 3 0x00000002) (buffers 2976 2976 2962 0) (four 2976 2976 2962 0)
-    -- P11: "(32,0) 2976"
-    ∷ accepted (moved 3 0x00000020) (buffers 2976 2976 2976 0) (four 2976 2976 2976 0)
+    ∷ refused (set p1 31 0xC5000000) (buffers 384 384 0 0) 5 31
+    -- P8, (0,0): "P8 becomes 384"
+    ∷ accepted (moved 3 0x00000000) (buffers 896 896 384 0) (four 896 896 384 0)
+    -- P9, (1,0): "P9 753". Luma (16, 15) is the highest byte: 512 + 15·16 = 752.
+    ∷ accepted (moved 3 0x00000001) (buffers 896 896 753 0) (four 896 896 753 0)
+    -- P10, (2,0): "P10 882"
+    ∷ accepted (moved 3 0x00000002) (buffers 896 896 882 0) (four 896 896 882 0)
+    -- P11, (32,0): "P11 896"
+    ∷ accepted (moved 3 0x00000020) (buffers 896 896 896 0) (four 896 896 896 0)
     -- P12: "(33,0), (−1,0) and (0,1): 10"
     ∷ refused (moved 3 0x00000021) (buffers 4000 4000 4000 4000) 10 32
     ∷ refused (moved 3 0x0000FFFF) (buffers 4000 4000 4000 4000) 10 32
     ∷ refused (moved 3 0x00010000) (buffers 4000 4000 4000 4000) 10 32
     -- P13: "f code 1: (15,0) passes, (16,0): 9". Chroma of 15 is 7: nine columns from 3 on, so Cr (11, 7) is the highest byte:
-    -- (16 + 7)·128 + 2·11 + 1 = 2967.
-    ∷ accepted (moved 1 0x0000000F) (buffers 2976 2976 2968 0) (four 2976 2976 2968 0)
+    -- row 23, column 23, at 512 + 23·16 + 7 = 887.
+    ∷ accepted (moved 1 0x0000000F) (buffers 896 896 888 0) (four 896 896 888 0)
     ∷ refused (moved 1 0x00000010) (buffers 4000 4000 4000 4000) 9 32
     ∷ []
 

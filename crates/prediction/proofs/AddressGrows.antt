@@ -1,14 +1,30 @@
 -- The two laws of an address: it grows with the column and with the row. Whatever is claimed of touched bytes rests on them
--- and on nothing else of the address. The premise on the pitch is for numberings that are not plain rows.
-use Prim.Native.Nat.{ℕ, _≤_}
-use native.Mathlib.Nat.{mul-le-mul-right}
+-- and on nothing else of the address. The premise on the pitch: 32 rows of 16 bytes fit into a row of tiles.
+use mathlib.Core.Path.{_≡_, ap}
+use mathlib.Core.Logic.{_⊎_, inl, inr}
+use Prim.Native.Nat.{ℕ, _+_, _*_, _/_, _%_, _≤_, _<_}
+use native.Mathlib.Nat.{mul-le-mul-right, eq-or-lt-of-le, add-mul}
 use native.Mathlib.Omega.{arith}
 use Rattle.prediction.specs.Addresses.{address}
 
-pub address-column : (pitch row a b : ℕ) → 16 ≤ pitch → a ≤ b → address pitch a row ≤ address pitch b row
+-- Sixteen columns are one step of 512 bytes, across tiles too: a column's part and a row's part.
+pub address-parts : (pitch b r : ℕ) → address pitch b r ≡ r / 32 * 32 * pitch + (b / 16 * 512 + r % 32 * 16 + b % 16)
 unfolding address
-address-column pitch row a b wide h = omega (arith, mul-le-mul-right pitch h)
+address-parts pitch b r =
+    let strip : b / 128 * 4096 + b % 128 / 16 * 512 ≡ b / 16 * 512 = omega arith in
+    omega (arith, strip)
+
+column-part : (a b : ℕ) → a ≤ b → a / 16 * 512 + a % 16 ≤ b / 16 * 512 + b % 16
+column-part a b h = omega arith
+
+pub address-column : (pitch row a b : ℕ) → 16 ≤ pitch → a ≤ b → address pitch a row ≤ address pitch b row
+address-column pitch row a b wide h = omega (arith, address-parts pitch a row, address-parts pitch b row, column-part a b h)
 
 pub address-row : (pitch column a b : ℕ) → 16 ≤ pitch → a ≤ b → address pitch column a ≤ address pitch column b
-unfolding address
-address-row pitch column a b wide h = omega (arith, mul-le-mul-right pitch h)
+address-row pitch column a b wide h = by (eq-or-lt-of-le {n = a / 32} {m = b / 32} (omega arith))
+  where
+    by : (a / 32 ≡ b / 32) ⊎ (a / 32 < b / 32) → address pitch column a ≤ address pitch column b
+    by (inl same) = omega (arith, address-parts pitch column a, address-parts pitch column b, ap (λ (q : ℕ). q * 32 * pitch) same)
+    by (inr below) =
+        let tiles : (a / 32 * 32 + 32) * pitch ≤ b / 32 * 32 * pitch = mul-le-mul-right pitch (omega arith) in
+        omega (arith, address-parts pitch column a, address-parts pitch column b, add-mul (a / 32 * 32) 32 pitch)

@@ -1,4 +1,4 @@
--- What document 01 works out by number, computed from the definitions.
+-- What documents 01 and 02 work out by number, computed from the definitions.
 use mathlib.Core.Path.{_≡_, refl}
 use mathlib.Core.Bool.{true, false}
 use mathlib.Core.List.{[], _∷_, map}
@@ -71,12 +71,13 @@ p8-to-p12 : map answerTo
     ∷ vector (minus 1) (pos 0)
     ∷ vector (pos 0) (pos 1)
     ∷ [])
-    ≡ inside 2960 ∷ inside 2960 ∷ inside 2962 ∷ inside 2976 ∷ Outside ∷ Outside ∷ Outside ∷ []
+    ≡ inside 384 ∷ inside 753 ∷ inside 882 ∷ inside 896 ∷ Outside ∷ Outside ∷ Outside ∷ []
 unfolding blockAt joined address
 p8-to-p12 = refl
 
--- the last macroblock of the largest picture: (32767 + 1399)·131072 + 4095 + 1, past 2^32
-largest : blockAt (record { pitch = 131072; «chroma_row» = 32767 }) (record { columns = 256; rows = 175 }) (record { column = 255; row = 174 }) (vector (pos 0) (pos 0)) ≡ inside 4478210048
+-- the last macroblock of the largest picture: its last chroma row, 34166, is row 22 of the tiles from row 34144 on, and
+-- 34144·131072 + 31·4096 + 7·512 + 22·16 + 15 + 1 is past 2^32
+largest : blockAt (record { pitch = 131072; «chroma_row» = 32767 }) (record { columns = 256; rows = 175 }) (record { column = 255; row = 174 }) (vector (pos 0) (pos 0)) ≡ inside 4475453296
 unfolding blockAt joined address
 largest = refl
 
@@ -93,6 +94,6 @@ abbrev reach : ℕ → Extent
 reach w = reachOf (record { pitch = 128; «chroma_row» = 16 }) (record { column = 0; row = 0 }) w
 
 reaches : map reach (0x00000000 ∷ 0x00000001 ∷ 0x00000002 ∷ 0x00000020 ∷ 0x0000ffff ∷ [])
-    ≡ upTo 2960 ∷ upTo 2960 ∷ upTo 2962 ∷ upTo 2976 ∷ upTo 0 ∷ []
+    ≡ upTo 384 ∷ upTo 753 ∷ upTo 882 ∷ upTo 896 ∷ upTo 0 ∷ []
 unfolding reachOf vectorOf joined emptyExtent address
 reaches = refl

@@ -61,7 +61,7 @@ abbrev input : List ℕ → List ℕ → List ℕ
 input lengths words = bytes 8 lengths ++ bytes 4 words
 
 abbrev enough : List ℕ
-enough = 2960 ∷ 2960 ∷ 0 ∷ 0 ∷ []
+enough = 384 ∷ 384 ∷ 0 ∷ 0 ∷ []
 
 record Case : Type 0 where
   given : List ℕ
@@ -69,10 +69,10 @@ record Case : Type 0 where
 
 cases : List Case
 cases =
-    -- P1: "Buffers 2960 2960 0 0: `accept 2960 2960 0 0`"
-    record { given = input enough p1; line = "accept 2960 2960 0 0\n" }
-    -- P2: "buffer 1 at 2959: 13, place 1", and the lengths that are needed
-    ∷ record { given = input (2960 ∷ 2959 ∷ 0 ∷ 0 ∷ []) p1; line = "refuse 13 1 2960 2960 0 0\n" }
+    -- P1: document 02, "P1 becomes 384 384 0 0"
+    record { given = input enough p1; line = "accept 384 384 0 0\n" }
+    -- P2: "buffer 1 at 2959: 13, place 1", "P2 uses 383", and the lengths that are needed
+    ∷ record { given = input (384 ∷ 383 ∷ 0 ∷ 0 ∷ []) p1; line = "refuse 13 1 384 384 0 0\n" }
     -- P3: "empty: 1 at 0"
     ∷ record { given = input enough []; line = "refuse 1 0\n" }
     -- P6: "word 32 set to 1: 8 at 32"
@@ -83,7 +83,7 @@ cases =
     -- "One to three leftover bytes get 1, placed at the whole words, if nothing else was refused."
     ∷ record { given = input enough p1 ++ (0 ∷ []); line = "refuse 1 37\n" }
     ∷ record { given = input enough p1 ++ (0 ∷ 0 ∷ 0 ∷ []); line = "refuse 1 37\n" }
-    ∷ record { given = input (2959 ∷ 2960 ∷ 0 ∷ 0 ∷ []) p1 ++ (0 ∷ []); line = "refuse 13 0 2960 2960 0 0\n" }
+    ∷ record { given = input (383 ∷ 384 ∷ 0 ∷ 0 ∷ []) p1 ++ (0 ∷ []); line = "refuse 13 0 384 384 0 0\n" }
     ∷ record { given = input enough (0x05000000 ∷ []) ++ (0 ∷ []); line = "refuse 3 0\n" }
     ∷ []
 
