@@ -23,6 +23,12 @@ pub fn with_bits(word: u32, hi: u8, lo: u8, value: u32) -> u32 {
     out
 }
 
+/// "A byte at column b, row r is at (r div 32)·32·pitch + (b div 128)·4096 + ((b mod 128) div 16)·512 + (r mod 32)·16 + b mod 16."
+fn byte_at(pitch: u32, column: i64, row: i64) -> i64 {
+    let (b, r) = (column, row);
+    (r / 32) * 32 * pitch as i64 + (b / 128) * 4096 + ((b % 128) / 16) * 512 + (r % 32) * 16 + b % 16
+}
+
 /// The samples that one vector's word names for the macroblock at a place of a picture.
 pub struct Block {
     pub pitch: u32,
@@ -71,17 +77,19 @@ impl Block {
             return None;
         }
         let mut end = 0;
+        let mut touch = |column: i64, row: i64| end = end.max(byte_at(self.pitch, column, row) + 1);
         for y in luma_rows {
             for x in luma_columns.clone() {
-                end = end.max(y * self.pitch as i64 + x + 1);
+                touch(x, y);
             }
         }
         // Rust's division rounds towards zero.
         for y in samples(8, self.row, vy / 2) {
             for x in samples(8, self.column, vx / 2) {
-                let cb = (self.chroma_row as i64 + y) * self.pitch as i64 + 2 * x;
-                let cr = cb + 1;
-                end = end.max(cb + 1).max(cr + 1);
+                // "chroma rows are C+y and columns are 2x and 2x+1": Cb and Cr
+                let row = self.chroma_row as i64 + y;
+                touch(2 * x, row);
+                touch(2 * x + 1, row);
             }
         }
         Some(end as u64)
@@ -249,15 +257,16 @@ pub fn write(dir: &Path) -> std::io::Result<()> {
 
 #[cfg(test)]
 mod tests {
-    /// Document 01's cases P8 to P13, as far as buffer 2 and the vector go.
+    /// Document 01's cases P8 to P13, as far as buffer 2 and the vector go, with document 02's lengths. P13's follow from its
+    /// formula: the last sample is Cr's in column 23 of row 23 for (15,0), in column 31 for (16,0).
     #[test]
     fn document_01() {
         let lines: Vec<String> = super::blocks().iter().take(9).map(|b| b.line()).collect();
         let due = [
-            "P8 00000000 range inside 2960",
-            "P9 00000001 range inside 2960",
-            "P10 00000002 range inside 2962",
-            "P11 00000020 range inside 2976",
+            "P8 00000000 range inside 384",
+            "P9 00000001 range inside 753",
+            "P10 00000002 range inside 882",
+            "P11 00000020 range inside 896",
             "P12 00000021 range outside",
             "P12 0000ffff range outside",
             "P12 00010000 range outside",
