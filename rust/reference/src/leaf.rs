@@ -257,8 +257,8 @@ pub fn write(dir: &Path) -> std::io::Result<()> {
 
 #[cfg(test)]
 mod tests {
-    /// Document 01's cases P8 to P13, as far as buffer 2 and the vector go, with document 02's lengths. P13's follow from its
-    /// formula: the last sample is Cr's in column 23 of row 23 for (15,0), in column 31 for (16,0).
+    /// Document 01's cases P8 to P13, as far as buffer 2 and the vector go, with document 02's lengths. P13's follows from its
+    /// formula: the highest byte is Cr's at column 23, row 23, so 512 + 23·16 + 7 = 887.
     #[test]
     fn document_01() {
         let lines: Vec<String> = super::blocks().iter().take(9).map(|b| b.line()).collect();
@@ -270,11 +270,9 @@ mod tests {
             "P12 00000021 range outside",
             "P12 0000ffff range outside",
             "P12 00010000 range outside",
-            "P13 0000000f range inside",
-            "P13 00000010 beyond inside",
+            "P13 0000000f range inside 888",
+            "P13 00000010 beyond inside 888",
         ];
-        for (line, due) in lines.iter().zip(due) {
-            assert!(line.starts_with(due), "{line}: {due}");
-        }
+        assert_eq!(lines, due);
     }
 }
