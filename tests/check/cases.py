@@ -27,7 +27,7 @@ class Case:
     terminal: bool = False
 
 
-P1, BELOW = 'accept 2960 2960 0 0\n', 'refuse 10 50\n'
+P1, BELOW = 'accept 384 384 0 0\n', 'refuse 10 50\n'
 SEVEN = 'accept 7 7 7 7\n'
 USAGE = r'usage: \./check .*\n'
 UNWRITTEN = 'check: standard output cannot be written\n'
@@ -43,17 +43,17 @@ def building(why, crates, self='check', what='the checker'):
 
 
 def answers():
-    several = 'samples/p1.batch: accept 2960 2960 0 0\n'
+    several = 'samples/p1.batch: accept 384 384 0 0\n'
     return [
         Case('a file', './check samples/p1.batch', 0, P1),
         Case('a file that is refused', './check samples/vector_below.batch', 1, BELOW),
-        Case('number 13', './check samples/short_reference.batch', 1, 'refuse 13 2 2976 2976 2962 0\n'),
+        Case('number 13', './check samples/short_reference.batch', 1, 'refuse 13 2 896 896 882 0\n'),
         Case('standard input', './check < samples/p1.batch', 0, P1),
         Case('standard input by name', './check - < samples/vector_below.batch', 1, BELOW),
         Case('a pipe', 'cat samples/p1.batch | ./check', 0, P1),
         Case('a pipe as a file', './check <(cat samples/p1.batch)', 0, P1),
         Case('empty input', './check < /dev/null', 1, 'refuse 16 0\n'),
-        Case('several, accepted', './check samples/p1.batch samples/b_picture.batch', 0, several + 'samples/b_picture.batch: accept 6064 6064 5792 5808\n'),
+        Case('several, accepted', './check samples/p1.batch samples/b_picture.batch', 0, several + 'samples/b_picture.batch: accept 5376 5376 5236 5344\n'),
         Case('several, one refused', './check samples/vector_below.batch samples/p1.batch', 1, 'samples/vector_below.batch: ' + BELOW + several),
         Case('several, all statuses', './check samples/p1.batch none samples/vector_below.batch samples samples/p1.batch', 2,
              several + 'samples/vector_below.batch: ' + BELOW + several,
@@ -122,7 +122,7 @@ def names():
         Case('a repository whose name has a blank, quotes and a line feed', '"$ROOM/$odd/check" "$ROOM/$odd/samples/p1.batch" 2> /dev/null', 0, P1,
              before='''odd=$'a "b\\' c\\n'; rm -rf "$ROOM/$odd"; cp -a . "$ROOM/$odd"; echo >> "$ROOM/$odd/crates.txt"''', builds=1),
         Case('a blank and quotes', '''cp samples/p1.batch $'a "b\\' c'; ./check $'a "b\\' c' samples/p1.batch''', 0,
-             '''a "b' c: accept 2960 2960 0 0\nsamples/p1.batch: ''' + P1),
+             '''a "b' c: accept 384 384 0 0\nsamples/p1.batch: ''' + P1),
         Case('a line feed', r'''f=$'a: accept 1 1 1 1\nb'; cp samples/vector_below.batch "$f"; ./check "$f"''', 1, BELOW),
         Case('a line feed, among several', r'''f=$'a: accept 1 1 1 1\nb'; cp samples/vector_below.batch "$f"; ./check "$f" "$f" none''', 2,
              2 * (r"$'a: accept 1 1 1 1\nb': " + BELOW), 'check: none cannot be read: .*\n'),

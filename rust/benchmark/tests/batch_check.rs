@@ -29,7 +29,7 @@ fn same(words: &[u32], buffers: [u64; 4], judged: Judged) -> u8 {
 /// The same beside lengths as they are needed, a byte more and a byte less in each buffer, none, and the longest.
 fn same_beside_all(words: &[u32]) -> u8 {
     let judged = judge(words);
-    let exact = judged.unwrap_or([2960; 4]);
+    let exact = judged.unwrap_or([384; 4]);
     for n in 0..4 {
         let with = |length: u64| std::array::from_fn(|m| if m == n { length } else { exact[m] });
         same(words, with(exact[n].saturating_sub(1)), judged);

@@ -39,7 +39,7 @@ fn lengths(exact: [u64; 4], choice: u8) -> [u64; 4] {
 
 fn ask_batch(compare: &mut Compare, [room, buffers, parting]: [u8; 3], words: &[u32]) -> Compared {
     let judged = judge(words);
-    let buffers = lengths(judged.unwrap_or([2960; 4]), buffers);
+    let buffers = lengths(judged.unwrap_or([384; 4]), buffers);
     let due = beside(judged, buffers);
     compare.whole(words, buffers, due)?;
     let mut r = Random::new(parting.into());

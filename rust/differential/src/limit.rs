@@ -10,7 +10,7 @@ use std::io::Write;
 use std::path::Path;
 
 const MOST: usize = 4_294_967_295;
-const BUFFERS: [u64; 4] = [2960, 2960, 0, 0];
+const BUFFERS: [u64; 4] = [384, 384, 0, 0];
 
 /// P1 and zero words behind it, all zero but perhaps one, so many words in all, and bytes left over.
 struct Long {

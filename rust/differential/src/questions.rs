@@ -63,7 +63,7 @@ fn decoded(compare: &mut Compare, r: &mut Random, batch: &Batch, exact: [u64; 4]
 
 /// One batch, checked whole and in parts, and decoded.
 pub fn ask_batch(compare: &mut Compare, r: &mut Random, batch: &Batch) -> Asked {
-    let exact = batch.judged.unwrap_or([2960; 4]);
+    let exact = batch.judged.unwrap_or([384; 4]);
     let compared =
         whole(compare, r, batch, exact).and_then(|()| parts(compare, r, batch)).and_then(|()| decoded(compare, r, batch, exact));
     with_bytes(compared, || bytes_of(&batch.words, batch.buffers))

@@ -2,11 +2,12 @@
 
 /// The smallest picture: type I, one intra macroblock, 16 by 16 samples with a pitch of 128 bytes. Document 01's case P1.
 ///
-/// It needs 2960 bytes of the source and of the reconstructed picture: the last of its eight chroma rows is row 23 of the
-/// buffer and has 16 bytes.
+/// It needs 384 bytes of the source and of the reconstructed picture. Both are Y-tiled: a tile has 128 bytes by 32 rows, and
+/// the rows of its first 16-byte column come one after the other. The last of the eight chroma rows is row 23 of the buffer, in
+/// the first tile, and has 16 bytes.
 ///
 /// ```
-/// assert_eq!(23 * 128 + 16, 2960);
+/// assert_eq!((23 + 1) * 16, 384);
 /// ```
 #[rustfmt::skip]
 pub const ONE_MACROBLOCK: [u32; 37] = [

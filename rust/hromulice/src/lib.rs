@@ -70,7 +70,7 @@ pub const COMMAND_WORDS: usize = 9;
 /// use hromulice::{check, example, Lengths, Reason, Refusal, Report};
 ///
 /// let mut batch = example::ONE_MACROBLOCK;
-/// let needed = Lengths { source: 2960, reconstructed: 2960, forward: 0, backward: 0 };
+/// let needed = Lengths { source: 384, reconstructed: 384, forward: 0, backward: 0 };
 /// assert_eq!(check(&batch, needed), Report::Accepted(needed));
 ///
 /// // The quantiser, in word 4 of the macroblock, is from 1 to 31.

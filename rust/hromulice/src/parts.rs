@@ -15,7 +15,7 @@ use core::fmt;
 /// ```
 /// use hromulice::{example, Check, Lengths, Reason};
 ///
-/// let mut check = Check::new(Lengths::from([2960, 2960, 0, 0]));
+/// let mut check = Check::new(Lengths::from([384, 384, 0, 0]));
 /// for part in example::ONE_MACROBLOCK.chunks(10) {
 ///     check.hand_over(part);
 /// }

@@ -9,8 +9,8 @@ use core::fmt;
 /// ```
 /// use hromulice::Lengths;
 ///
-/// let lengths = Lengths { source: 2960, reconstructed: 2960, ..Lengths::NONE };
-/// assert_eq!(lengths, Lengths::from([2960, 2960, 0, 0]));
+/// let lengths = Lengths { source: 384, reconstructed: 384, ..Lengths::NONE };
+/// assert_eq!(lengths, Lengths::from([384, 384, 0, 0]));
 /// ```
 #[derive(Clone, Copy, Debug, PartialEq, Eq, Hash)]
 pub struct Lengths {
@@ -34,7 +34,7 @@ impl Lengths {
     /// use hromulice::{check, example, Lengths, Report};
     ///
     /// let Report::Accepted(needed) = check(&example::ONE_MACROBLOCK, Lengths::LONGEST) else { panic!() };
-    /// assert_eq!(needed, Lengths::from([2960, 2960, 0, 0]));
+    /// assert_eq!(needed, Lengths::from([384, 384, 0, 0]));
     /// ```
     pub const LONGEST: Lengths = Lengths { source: u64::MAX, reconstructed: u64::MAX, forward: u64::MAX, backward: u64::MAX };
 
@@ -117,11 +117,11 @@ impl fmt::Display for Buffer {
 /// use hromulice::{check, example, Buffer, Lengths, Report};
 ///
 /// let batch = example::ONE_MACROBLOCK;
-/// let report = check(&batch, Lengths { reconstructed: 2959, ..Lengths::LONGEST });
+/// let report = check(&batch, Lengths { reconstructed: 383, ..Lengths::LONGEST });
 /// match report {
 ///     Report::Accepted(needed) => println!("to the engine; it touches {needed}"),
 ///     Report::ShortBuffer { buffer, needed } => {
-///         assert_eq!((buffer, needed.of(buffer)), (Buffer::Reconstructed, 2960));
+///         assert_eq!((buffer, needed.of(buffer)), (Buffer::Reconstructed, 384));
 ///     }
 ///     Report::ShortLog { .. } => unreachable!("the check lends no log"),
 ///     Report::Refused(refusal) => println!("not to the engine: {refusal}"),

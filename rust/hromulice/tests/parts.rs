@@ -54,7 +54,7 @@ fn longest_command() {
 /// The lengths are those that the check began with.
 #[test]
 fn lengths_of_its_own() {
-    let mut short = Check::new(Lengths { source: 2959, ..P1_LENGTHS });
+    let mut short = Check::new(Lengths { source: 383, ..P1_LENGTHS });
     short.hand_over(&P1);
     assert_eq!(refusal(&short), Some((Reason::BufferTooShort, 0)));
     assert_eq!(short.report().needed(), Some(P1_LENGTHS));

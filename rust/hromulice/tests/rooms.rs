@@ -13,11 +13,11 @@ fn refused(reason: Reason, place: u64) -> Result<(), Refusal> {
 #[test]
 fn short_logs() {
     let words = two_columns(3, 2, 0);
-    let needed = Lengths::from([2976, 2976, 2962, 0]);
+    let needed = Lengths::from([896, 896, 882, 0]);
     for room in 0..48 {
         let mut log = vec![0xee; room];
         assert_eq!(decode(&words, needed, &mut log), Report::ShortLog { bytes: 48, needed }, "{room}");
-        let report = decode(&words, Lengths { forward: 2961, ..needed }, &mut log);
+        let report = decode(&words, Lengths { forward: 881, ..needed }, &mut log);
         assert_eq!((report.number(), report.place(), report.needed()), (13, 2, Some(needed)));
         assert_eq!(log, vec![0xee; room]);
     }

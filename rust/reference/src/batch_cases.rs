@@ -167,7 +167,7 @@ mod tests {
         assert!(cases.iter().all(|case| case.words.len() <= 2000));
         let one = &cases[0].bytes(0);
         assert_eq!(one.len(), 40 + 4 * 37);
-        assert_eq!(one[..12], [37, 0, 0, 0, 0x90, 0x0b, 0, 0, 0, 0, 0, 0]);
+        assert_eq!(one[..12], [37, 0, 0, 0, 0x80, 0x01, 0, 0, 0, 0, 0, 0]);
         assert_eq!(one[36..44], [0, 0, 0, 0, 0x04, 0, 0x01, 0x70]);
     }
 }

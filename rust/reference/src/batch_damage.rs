@@ -10,7 +10,7 @@ fn bits_of_p1(cases: &mut Cases) {
     for bit in 0..37 * 32 {
         let mut words = p1();
         words[bit / 32] ^= 1 << (bit % 32);
-        cases.push(words, [2960, 2960, 0, 0]);
+        cases.push(words, [384, 384, 0, 0]);
     }
 }
 

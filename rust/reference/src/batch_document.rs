@@ -1,4 +1,4 @@
-//! Document 01's cases P1 to P13, by its own words and numbers.
+//! Document 01's cases P1 to P13, by its own words and numbers, with document 02's lengths.
 
 use crate::batch::{moved, rows, Frame};
 use crate::batch_cases::Cases;
@@ -34,11 +34,11 @@ fn first_seven() -> Vec<Due> {
         words[place] = value;
         words
     };
-    let one = [2960, 2960, 0, 0];
+    let one = [384, 384, 0, 0];
     let due = |words: Vec<u32>, buffers: [u64; 4], line: &'static str| Due { words, buffers, line };
     vec![
-        due(p1(), one, "accept 2960 2960 0 0"),
-        due(p1(), [2960, 2959, 0, 0], "refuse 13 1 2960 2960 0 0"),
+        due(p1(), one, "accept 384 384 0 0"),
+        due(p1(), [384, 383, 0, 0], "refuse 13 1 384 384 0 0"),
         due(vec![], one, "refuse 1 0"),
         due(p1()[..36].into(), one, "refuse 1 36"),
         due(vec![0x0500_0000], one, "refuse 3 0"),
@@ -50,18 +50,18 @@ fn first_seven() -> Vec<Due> {
 /// The accepted ones with buffer 2 long enough, and one byte less.
 fn eight_to_thirteen() -> Vec<Due> {
     let accepted = [
-        (3, 0, 2960, "accept 2976 2976 2960 0", "refuse 13 2 2976 2976 2960 0"),
-        (3, 1, 2960, "accept 2976 2976 2960 0", "refuse 13 2 2976 2976 2960 0"),
-        (3, 2, 2962, "accept 2976 2976 2962 0", "refuse 13 2 2976 2976 2962 0"),
-        (3, 32, 2976, "accept 2976 2976 2976 0", "refuse 13 2 2976 2976 2976 0"),
-        (1, 15, 2968, "accept 2976 2976 2968 0", "refuse 13 2 2976 2976 2968 0"),
+        (3, 0, 384, "accept 896 896 384 0", "refuse 13 2 896 896 384 0"),
+        (3, 1, 753, "accept 896 896 753 0", "refuse 13 2 896 896 753 0"),
+        (3, 2, 882, "accept 896 896 882 0", "refuse 13 2 896 896 882 0"),
+        (3, 32, 896, "accept 896 896 896 0", "refuse 13 2 896 896 896 0"),
+        (1, 15, 888, "accept 896 896 888 0", "refuse 13 2 896 896 888 0"),
     ];
     let refused = [(3, 33, 0, "refuse 10 32"), (3, -1, 0, "refuse 10 32"), (3, 0, 1, "refuse 10 32"), (1, 16, 0, "refuse 9 32")];
     let mut all = Vec::new();
     for (code, x, length, enough, short) in accepted {
         let words = two_columns(code, x, 0);
-        all.push(Due { words: words.clone(), buffers: [2976, 2976, length, 0], line: enough });
-        all.push(Due { words, buffers: [2976, 2976, length - 1, 0], line: short });
+        all.push(Due { words: words.clone(), buffers: [896, 896, length, 0], line: enough });
+        all.push(Due { words, buffers: [896, 896, length - 1, 0], line: short });
     }
     for (code, x, y, line) in refused {
         all.push(Due { words: two_columns(code, x, y), buffers: [4096; 4], line });

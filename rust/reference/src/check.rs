@@ -174,7 +174,7 @@ mod tests {
     /// Wherever the words are parted, empty parts and the empty list included.
     #[test]
     fn parts() {
-        let (words, buffers) = (p1(), [2960, 2959, 0, 0]);
+        let (words, buffers) = (p1(), [384, 383, 0, 0]);
         assert_eq!(check_parts(&[], buffers), check(&[], buffers));
         assert_eq!(check_parts(&[&[], &[]], buffers), Report { number: 1, place: 0, lengths: [0; 4] });
         for at in 0..=words.len() {
@@ -193,10 +193,10 @@ mod tests {
             (report.number, report.place)
         };
         let zeros = [&p1()[..], &[0, 0]].concat();
-        assert_eq!(answer(39, &zeros, 2960), (0, 0));
+        assert_eq!(answer(39, &zeros, 384), (0, 0));
         for most in 0..39 {
             // in place of 1, and before 13
-            assert_eq!(answer(most, &zeros, 2960), (27, most as u64));
+            assert_eq!(answer(most, &zeros, 384), (27, most as u64));
             assert_eq!(answer(most, &zeros, 0), (27, most as u64));
         }
         assert_eq!(answer(39, &zeros, 0), (13, 0));

@@ -71,7 +71,7 @@ mod tests {
     #[test]
     fn document_01() {
         let mut lent = [0xee; 26];
-        assert_eq!(line(&decode(&p1(), [2960, 2960, 0, 0], &mut lent)), "accept 2960 2960 0 0");
+        assert_eq!(line(&decode(&p1(), [384, 384, 0, 0], &mut lent)), "accept 384 384 0 0");
         assert_eq!(lent[..8], [0; 8]);
         assert_eq!(lent[8..13], [0x3f, 0x00, 0x00, 0x01, 0x0f]);
         assert_eq!(lent[13..24], [0; 11]);
@@ -83,9 +83,9 @@ mod tests {
     fn thirteen_before_fourteen() {
         let mut lent = [0xee; 23];
         let mut answer = |buffers: [u64; 4]| line(&decode(&p1(), buffers, &mut lent));
-        assert_eq!(answer([2960, 2960, 0, 0]), "refuse 14 24 2960 2960 0 0");
-        assert_eq!(answer([2960, 2959, 0, 0]), "refuse 13 1 2960 2960 0 0");
-        assert_eq!(answer([u64::MAX; 4]), "refuse 14 24 2960 2960 0 0");
+        assert_eq!(answer([384, 384, 0, 0]), "refuse 14 24 384 384 0 0");
+        assert_eq!(answer([384, 383, 0, 0]), "refuse 13 1 384 384 0 0");
+        assert_eq!(answer([u64::MAX; 4]), "refuse 14 24 384 384 0 0");
         assert_eq!(lent, [0xee; 23]);
     }
 

@@ -194,11 +194,11 @@ mod tests {
         assert!(cases.iter().all(|case| case.batch.words.len() <= 2000 && case.log.len() <= 2000));
         let one = &cases[0].bytes();
         assert_eq!(one.len(), 40 + 4 * 37);
-        assert_eq!(one[..12], [37, 0, 0, 0, 0x90, 0x0b, 0, 0, 0, 0, 0, 0]);
+        assert_eq!(one[..12], [37, 0, 0, 0, 0x80, 0x01, 0, 0, 0, 0, 0, 0]);
         assert_eq!(one[36..44], [25, 0, 0, 0, 0x04, 0, 0x01, 0x70]);
         assert_eq!(one[40 + 4 * 36..], [0, 0, 0, 0x05]);
-        assert_eq!(cases[0].line(), "accept 2960 2960 0 0 00000000000000003f0000010f0000000000000000000000\n");
-        assert_eq!(cases[1].line(), "refuse 14 24 2960 2960 0 0 -\n");
-        assert_eq!(cases[2].line(), "refuse 14 24 2960 2960 0 0 0b\n");
+        assert_eq!(cases[0].line(), "accept 384 384 0 0 00000000000000003f0000010f0000000000000000000000\n");
+        assert_eq!(cases[1].line(), "refuse 14 24 384 384 0 0 -\n");
+        assert_eq!(cases[2].line(), "refuse 14 24 384 384 0 0 0b\n");
     }
 }

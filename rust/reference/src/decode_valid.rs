@@ -89,7 +89,7 @@ fn looks_like_macroblocks(cases: &mut Cases) {
 /// Every room up to 50 bytes for one macroblock, and rooms about each record's end for three.
 fn rooms(cases: &mut Cases) {
     for room in 0..=50 {
-        cases.push(&p1(), [2960, 2960, 0, 0], room);
+        cases.push(&p1(), [384, 384, 0, 0], room);
     }
     for batch in [small_i(), small_p(), small_b()] {
         let words = batch.words();

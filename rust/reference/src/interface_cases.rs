@@ -15,7 +15,7 @@ fn others(cases: &mut Cases) {
     for words in [small_p().words(), small_b().words(), [many.clone(), vec![0; 3000]].concat(), many] {
         cases.push(words.clone(), needed(&words));
     }
-    cases.push([p1(), vec![0, 7]].concat(), [2960; 4]);
+    cases.push([p1(), vec![0, 7]].concat(), [384; 4]);
 }
 
 /// Writes DIR/NN.batch, DIR/NN.batch.line and, of an accepted one, DIR/NN.batch.log.

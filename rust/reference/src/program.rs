@@ -39,16 +39,16 @@ mod tests {
     use super::*;
     use crate::batch_document::p1;
 
-    const ENOUGH: [u64; 4] = [2960, 2960, 0, 0];
+    const ENOUGH: [u64; 4] = [384, 384, 0, 0];
 
     #[test]
     fn document_01() {
         let bytes = bytes_of(&p1(), ENOUGH);
         assert_eq!(bytes.len(), 32 + 4 * 37);
-        assert_eq!(bytes[..10], [0x90, 0x0b, 0, 0, 0, 0, 0, 0, 0x90, 0x0b]);
+        assert_eq!(bytes[..10], [0x80, 0x01, 0, 0, 0, 0, 0, 0, 0x80, 0x01]);
         assert_eq!(bytes[32..36], [0x04, 0x00, 0x01, 0x70]);
-        assert_eq!(line_of(&bytes), "accept 2960 2960 0 0");
-        assert_eq!(line_of(&bytes_of(&p1(), [2960, 2959, 0, 0])), "refuse 13 1 2960 2960 0 0");
+        assert_eq!(line_of(&bytes), "accept 384 384 0 0");
+        assert_eq!(line_of(&bytes_of(&p1(), [384, 383, 0, 0])), "refuse 13 1 384 384 0 0");
         assert_eq!(line_of(&bytes_of(&[], ENOUGH)), "refuse 1 0");
         assert_eq!(line_of(&bytes_of(&[0x0500_0000], ENOUGH)), "refuse 3 0");
     }
@@ -75,7 +75,7 @@ mod tests {
             assert_eq!(more(&[&p1()[..], &[0, 0]].concat(), ENOUGH, n), "refuse 1 39");
             assert_eq!(more(&p1()[..36], ENOUGH, n), "refuse 1 36");
             assert_eq!(more(&[], ENOUGH, n), "refuse 1 0");
-            assert_eq!(more(&p1(), [2960, 2959, 0, 0], n), "refuse 13 1 2960 2960 0 0");
+            assert_eq!(more(&p1(), [384, 383, 0, 0], n), "refuse 13 1 384 384 0 0");
             assert_eq!(more(&faulty, ENOUGH, n), "refuse 5 31");
             assert_eq!(more(&[&p1()[..], &[1]].concat(), ENOUGH, n), "refuse 12 37");
         }

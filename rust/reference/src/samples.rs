@@ -22,7 +22,8 @@ fn vector_below() -> Vec<u32> {
     rows(&Frame::new(2, 2, 2), &[still, still, moved(1, word_of(4, 5), 0), still]).words()
 }
 
-/// Document 01's P10: the forward reference has to have two bytes more than for a vector of zero.
+/// Document 01's P10. For a vector of zero the forward reference needs 384 bytes. Here the block has a ninth chroma column, bytes 16
+/// and 17 of a row, and these lie in the next strip of the tile: 882 bytes.
 fn p10() -> Vec<u32> {
     rows(&Frame::new(2, 2, 1), &[plain(1, word_of(2, 0), 0), moved(0, 0, 0)]).words()
 }
@@ -31,10 +32,10 @@ fn p10() -> Vec<u32> {
 fn samples() -> [(&'static str, Vec<u8>); 4] {
     let beside_needed = |words: Vec<u32>| bytes_of(&words, needed(&words));
     [
-        ("p1.batch", bytes_of(&p1(), [2960, 2960, 0, 0])),
+        ("p1.batch", bytes_of(&p1(), [384, 384, 0, 0])),
         ("b_picture.batch", beside_needed(b_picture())),
         ("vector_below.batch", bytes_of(&vector_below(), [1 << 20; 4])),
-        ("short_reference.batch", bytes_of(&p10(), [2976, 2976, 2961, 0])),
+        ("short_reference.batch", bytes_of(&p10(), [896, 896, 881, 0])),
     ]
 }
 
@@ -55,10 +56,10 @@ mod tests {
     #[test]
     fn lines() {
         let lines = samples().map(|(_, bytes)| line_of(&bytes));
-        assert_eq!(lines[0], "accept 2960 2960 0 0");
+        assert_eq!(lines[0], "accept 384 384 0 0");
         assert!(lines[1].starts_with("accept ") && !lines[1].contains(" 0"), "{}", lines[1]);
         assert_eq!(lines[2], "refuse 10 50");
-        assert_eq!(lines[3], "refuse 13 2 2976 2976 2962 0");
+        assert_eq!(lines[3], "refuse 13 2 896 896 882 0");
     }
 
     /// The repository's samples are these, and there are no others.

@@ -5,7 +5,7 @@ use hromulice::{example, Lengths};
 
 /// "P1, whole, 37 words in hex", beside its buffers.
 pub const P1: [u32; 37] = example::ONE_MACROBLOCK;
-pub const P1_LENGTHS: Lengths = Lengths { source: 2960, reconstructed: 2960, forward: 0, backward: 0 };
+pub const P1_LENGTHS: Lengths = Lengths { source: 384, reconstructed: 384, forward: 0, backward: 0 };
 
 /// P1 with one word changed.
 pub fn p1_with(place: usize, word: u32) -> Vec<u32> {
@@ -44,23 +44,23 @@ fn case(name: &'static str, words: Vec<u32>, lengths: [u64; 4], number: u8, plac
     Case { name, words, lengths, number, place, needed }
 }
 
-/// "Cases (marked ones P)": P1 to P13, those with a length also beside one byte less.
+/// "Cases (marked ones P)": P1 to P13 with document 02's lengths, those with a length also beside one byte less.
 pub fn document_01() -> Vec<Case> {
-    let one = [2960, 2960, 0, 0];
+    let one = [384, 384, 0, 0];
     let mut cases = vec![
         case("P1", P1.to_vec(), one, 0, 0, Some(one)),
-        case("P2", P1.to_vec(), [2960, 2959, 0, 0], 13, 1, Some(one)),
+        case("P2", P1.to_vec(), [384, 383, 0, 0], 13, 1, Some(one)),
         case("P3", vec![], one, 1, 0, None),
         case("P4", P1[..36].to_vec(), one, 1, 36, None),
         case("P5", vec![0x0500_0000], one, 3, 0, None),
         case("P6", p1_with(32, 1), one, 8, 32, None),
         case("P7", p1_with(31, 0xc500_0000), one, 5, 31, None),
     ];
-    let accepted = [("P8", 3, 0, 2960), ("P9", 3, 1, 2960), ("P10", 3, 2, 2962), ("P11", 3, 32, 2976), ("P13", 1, 15, 2968)];
+    let accepted = [("P8", 3, 0, 384), ("P9", 3, 1, 753), ("P10", 3, 2, 882), ("P11", 3, 32, 896), ("P13", 1, 15, 888)];
     for (name, f_code, x, length) in accepted {
-        let (words, needed) = (two_columns(f_code, x, 0), [2976, 2976, length, 0]);
+        let (words, needed) = (two_columns(f_code, x, 0), [896, 896, length, 0]);
         cases.push(case(name, words.clone(), needed, 0, 0, Some(needed)));
-        cases.push(case(name, words, [2976, 2976, length - 1, 0], 13, 2, Some(needed)));
+        cases.push(case(name, words, [896, 896, length - 1, 0], 13, 2, Some(needed)));
     }
     for (name, f_code, x, y, number) in [("P12", 3, 33, 0, 10), ("P12", 3, -1, 0, 10), ("P12", 3, 0, 1, 10), ("P13", 1, 16, 0, 9)]
     {

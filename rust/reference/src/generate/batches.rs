@@ -99,7 +99,7 @@ impl Batches {
     /// The words, beside lengths that are drawn about the ones needed.
     fn beside_lengths(&self, r: &mut Random, words: Vec<u32>, broken: Vec<usize>) -> Batch {
         let judged = judge(&words);
-        let buffers = lengths(r, judged.unwrap_or([2960; 4]));
+        let buffers = lengths(r, judged.unwrap_or([384; 4]));
         Batch { words, buffers, judged, broken }
     }
 
