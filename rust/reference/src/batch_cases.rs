@@ -14,6 +14,7 @@ use crate::batch_rules::rule_table;
 use crate::check::{check, line, Report};
 use crate::command::header;
 use crate::decode_cases;
+use crate::tile_cases::tiles;
 use crate::valid_cases::valid;
 use std::collections::{BTreeSet, HashSet};
 use std::path::Path;
@@ -65,7 +66,7 @@ pub fn made_by(generators: &[fn(&mut Cases)]) -> Vec<Case> {
 }
 
 fn cases() -> Vec<Case> {
-    made_by(&[document, rule_table, valid, damage, faults])
+    made_by(&[document, rule_table, valid, tiles, damage, faults])
 }
 
 pub fn write(dir: &Path) -> std::io::Result<()> {
@@ -163,7 +164,7 @@ mod tests {
     fn form_of_the_cases() {
         let cases = cases();
         let bytes: usize = cases.iter().map(|case| case.bytes(0).len()).sum();
-        assert!(bytes < 720_000, "{bytes}");
+        assert!(bytes < 780_000, "{bytes}");
         assert!(cases.iter().all(|case| case.words.len() <= 2000));
         let one = &cases[0].bytes(0);
         assert_eq!(one.len(), 40 + 4 * 37);

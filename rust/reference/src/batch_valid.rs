@@ -22,14 +22,29 @@ pub fn near_ends(r: &mut Random, low: i64, high: i64) -> i64 {
     pick(r, &[low, high, (low + 1).min(high), (high - 1).max(low), between, between])
 }
 
+/// A first chroma row from 16H on: next to luma, so that both may lie in one tile row; with chroma about a border of two tile
+/// rows, a near one or any; or anything.
+fn random_chroma_row(r: &mut Random, rows: u32) -> u32 {
+    let (least, chroma_rows) = (i64::from(16 * rows), i64::from(8 * rows));
+    let (near, any) = (least / 32 + r.within(1, 3), r.within(least / 32 + 1, 1024));
+    let border = 32 * pick(r, &[near, any]);
+    let row = match r.within(0, 2) {
+        0 => least + r.within(0, 8),
+        1 => border - near_ends(r, 0, chroma_rows),
+        _ => near_ends(r, least, 32767),
+    };
+    row.clamp(least, 32767) as u32
+}
+
 /// Any sizes and f codes that a picture of this type and so many macroblocks can have.
 pub fn random_frame(r: &mut Random, sort: u32, columns: u32, rows: u32) -> Frame {
+    let chroma_row = random_chroma_row(r, rows);
     let mut near = |low: u32, high: u32| near_ends(r, low.into(), high.into()) as u32;
     let mut frame = Frame {
         width: near(16 * columns - 15, 16 * columns),
         height: near(16 * rows - 15, 16 * rows),
         pitch: 128 * near((16 * columns).div_ceil(128), 1024),
-        chroma_row: near(16 * rows, 32767),
+        chroma_row,
         ..Frame::new(sort, columns, rows)
     };
     frame.codes = frame.codes.map(|code| if code == 15 { 15 } else { r.within(1, 9) as u32 });
@@ -60,8 +75,17 @@ fn spans(frame: &Frame, k: u32, direction: usize) -> [(i64, i64); 2] {
     [span(codes[0], k % frame.columns, frame.columns), span(codes[1], k / frame.columns, frame.rows)]
 }
 
+/// A component from low to high: near an end, anything, near a multiple of 32, with which a block ends where a strip of its
+/// tile does, or one more, with which luma alone comes to the next strip.
+fn random_component(r: &mut Random, low: i64, high: i64) -> i64 {
+    let any = near_ends(r, low, high);
+    let strip = any.div_euclid(32) * 32;
+    let near = strip + r.within(-2, 2);
+    pick(r, &[any, any, near, strip + 1]).clamp(low, high)
+}
+
 pub fn random_vector(r: &mut Random, frame: &Frame, k: u32, direction: usize) -> u32 {
-    let [x, y] = spans(frame, k, direction).map(|(low, high)| near_ends(r, low, high));
+    let [x, y] = spans(frame, k, direction).map(|(low, high)| random_component(r, low, high));
     word_of(x, y)
 }
 
@@ -91,8 +115,10 @@ fn random_end(r: &mut Random, frame: &Frame, k: u32) -> End {
     }
 }
 
-fn random_coded(r: &mut Random, frame: &Frame, k: u32) -> Command {
-    let kind = pick(r, [&[0][..], &[0, 1, 1, 1], &[0, 1, 2, 3, 3]][frame.sort as usize - 1]);
+/// Intra, or any kind that the picture allows.
+fn random_coded(r: &mut Random, frame: &Frame, k: u32, intra: bool) -> Command {
+    let kinds = if intra { &[0][..] } else { [&[0][..], &[0, 1, 1, 1], &[0, 1, 2, 3, 3]][frame.sort as usize - 1] };
+    let kind = pick(r, kinds);
     let has = |direction: u32| kind & direction != 0;
     let forward = if has(1) { random_vector(r, frame, k, 0) } else { 0 };
     let backward = if has(2) { random_vector(r, frame, k, 1) } else { 0 };
@@ -103,13 +129,17 @@ fn random_coded(r: &mut Random, frame: &Frame, k: u32) -> Command {
     c
 }
 
-/// The macroblocks of a picture, their free fields filled at random.
+/// The macroblocks of a picture, their free fields filled at random. In every fourth picture few are predicted, so that few
+/// blocks decide how long the references have to be.
 fn random_macroblocks(r: &mut Random, frame: &Frame) -> Vec<(Command, End)> {
     let mut all: Vec<(Command, End)> = Vec::new();
+    let few = once_in(r, 4);
     for k in 0..frame.macroblocks() as u32 {
         let end = random_end(r, frame, k);
-        let open = all.last().filter(|(_, before)| *before == End::Nothing && end == End::Nothing && !once_in(r, 3));
-        let mut c = open.and_then(|(before, _)| skipped(frame, k, before)).unwrap_or_else(|| random_coded(r, frame, k));
+        let intra = few && !once_in(r, 4);
+        let may_skip = !intra && end == End::Nothing && !once_in(r, 3);
+        let open = all.last().filter(|(_, before)| *before == End::Nothing && may_skip);
+        let mut c = open.and_then(|(before, _)| skipped(frame, k, before)).unwrap_or_else(|| random_coded(r, frame, k, intra));
         for f in [CARRIED, MAXIMUM, TARGET, CLAMP] {
             f.set(&mut c, r.next() as u32);
         }

@@ -37,8 +37,13 @@ impl Place<'_> {
         }
     }
 
+    /// The macroblock's own samples.
+    pub fn own(&self) -> Block {
+        self.block(0, (1, 1))
+    }
+
     /// The predicted blocks, each with its buffer and word: "2 (forward) and 3 (backward)"; "5 forward vector, 6 backward".
-    fn predicted(&self, c: &Command) -> Vec<(usize, usize, Block)> {
+    pub fn predicted(&self, c: &Command) -> Vec<(usize, usize, Block)> {
         let forward = (2, 5, self.block(c[5], self.picture.forward));
         let backward = (3, 6, self.block(c[6], self.picture.backward));
         match kind(c) {
@@ -104,7 +109,7 @@ pub fn macroblock_rules(c: &Command, at: &Place) -> Vec<Rule> {
 /// One more than the highest byte that the macroblock touches in each buffer. "Every macroblock, skipped ones too, touches
 /// its 16×16 luma and 8×8 chroma samples in buffers 0 and 1, and its predicted blocks in 2 (forward) and 3 (backward)."
 pub fn touched(c: &Command, at: &Place) -> [u64; 4] {
-    let own = at.block(0, (1, 1)).end().unwrap();
+    let own = at.own().end().unwrap();
     let mut ends = [own, own, 0, 0];
     for (buffer, _, block) in at.predicted(c) {
         ends[buffer] = block.end().unwrap();

@@ -190,7 +190,7 @@ mod tests {
         let stdin: usize = cases.iter().map(|case| case.bytes().len()).sum();
         let stdout: usize = cases.iter().map(|case| case.line().len()).sum();
         assert!(stdin < 500_000 && stdout < 700_000, "{stdin} {stdout}");
-        assert!((600..=1200).contains(&cases.len()), "{}", cases.len());
+        assert!((600..=1250).contains(&cases.len()), "{}", cases.len());
         assert!(cases.iter().all(|case| case.batch.words.len() <= 2000 && case.log.len() <= 2000));
         let one = &cases[0].bytes();
         assert_eq!(one.len(), 40 + 4 * 37);

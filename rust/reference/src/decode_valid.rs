@@ -32,6 +32,13 @@ fn checked(cases: &mut Cases) {
     }
 }
 
+/// The batches in which tiles matter, each that is accepted with room exactly enough.
+fn tiles(cases: &mut Cases) {
+    for case in made_by(&[crate::tile_cases::tiles]).into_iter().filter(|case| case.report.number == 0) {
+        assert_eq!(cases.push(&case.words, case.buffers, log_bytes(&case.words).unwrap()), case.report);
+    }
+}
+
 /// Each type in shapes of up to 40 macroblocks, with NOOPs, carried commands, and zero words after END; far vectors in the
 /// last two shapes.
 fn shapes(cases: &mut Cases) {
@@ -111,6 +118,7 @@ fn named(cases: &mut Cases) {
 
 pub fn valid(cases: &mut Cases) {
     checked(cases);
+    tiles(cases);
     shapes(cases);
     between(cases);
     looks_like_macroblocks(cases);

@@ -1,8 +1,6 @@
-//! Cases for the two leaf crates: fields of a word, and blocks in a picture buffer.
+//! Fields of a word, and the bytes of a block in a picture buffer.
 
-use crate::random::Random;
-use std::fmt::Write as _;
-use std::path::Path;
+use std::ops::Range;
 
 /// Bits hi:lo of a word, one by one. A word has no bit above 31.
 pub fn bits(word: u32, hi: u8, lo: u8) -> u32 {
@@ -24,9 +22,23 @@ pub fn with_bits(word: u32, hi: u8, lo: u8, value: u32) -> u32 {
 }
 
 /// "A byte at column b, row r is at (r div 32)·32·pitch + (b div 128)·4096 + ((b mod 128) div 16)·512 + (r mod 32)·16 + b mod 16."
-fn byte_at(pitch: u32, column: i64, row: i64) -> i64 {
+pub fn byte_at(pitch: u32, column: u64, row: u64) -> u64 {
     let (b, r) = (column, row);
-    (r / 32) * 32 * pitch as i64 + (b / 128) * 4096 + ((b % 128) / 16) * 512 + (r % 32) * 16 + b % 16
+    (r / 32) * 32 * u64::from(pitch) + (b / 128) * 4096 + ((b % 128) / 16) * 512 + (r % 32) * 16 + b % 16
+}
+
+#[derive(Clone, Copy, Debug, PartialEq, Eq)]
+pub enum Plane {
+    Luma,
+    Cb,
+    Cr,
+}
+
+/// The columns or the rows that a component names in a plane whose macroblocks have so many of them.
+fn samples(size: i64, place: u16, v: i64) -> Range<i64> {
+    let first = size * place as i64 + v.div_euclid(2);
+    let count = if v % 2 == 0 { size } else { size + 1 };
+    first..first + count
 }
 
 /// The samples that one vector's word names for the macroblock at a place of a picture.
@@ -61,63 +73,40 @@ impl Block {
         holds(self.x_code, x) && holds(self.y_code, y)
     }
 
-    /// One more than the highest byte that a sample of the block stands at, or none where the luma block is not inside.
-    pub fn end(&self) -> Option<u64> {
+    /// Whether the luma block lies "in columns 0 to 16W−1, rows 0 to 16H−1".
+    fn inside(&self) -> bool {
         let (vx, vy) = self.vector();
-        let samples = |size: i64, place: u16, v: i64| {
-            let first = size * place as i64 + v.div_euclid(2);
-            let count = if v % 2 == 0 { size } else { size + 1 };
-            first..first + count
-        };
-        let (luma_columns, luma_rows) = (samples(16, self.column, vx), samples(16, self.row, vy));
-        let picture = |n: u16| 0..16 * n as i64;
-        if !luma_columns.clone().all(|x| picture(self.columns).contains(&x))
-            || !luma_rows.clone().all(|y| picture(self.rows).contains(&y))
-        {
-            return None;
-        }
-        let mut end = 0;
-        let mut touch = |column: i64, row: i64| end = end.max(byte_at(self.pitch, column, row) + 1);
-        for y in luma_rows {
-            for x in luma_columns.clone() {
-                touch(x, y);
+        let holds = |n: u16, mut samples: Range<i64>| samples.all(|at| (0..16 * n as i64).contains(&at));
+        holds(self.columns, samples(16, self.column, vx)) && holds(self.rows, samples(16, self.row, vy))
+    }
+
+    /// Hands over every sample of a block that is inside: its plane, and the column and the row of its byte.
+    pub fn each_sample(&self, mut take: impl FnMut(Plane, u64, u64)) {
+        let (vx, vy) = self.vector();
+        for y in samples(16, self.row, vy) {
+            for x in samples(16, self.column, vx) {
+                take(Plane::Luma, x as u64, y as u64);
             }
         }
         // Rust's division rounds towards zero.
         for y in samples(8, self.row, vy / 2) {
             for x in samples(8, self.column, vx / 2) {
-                // "chroma rows are C+y and columns are 2x and 2x+1": Cb and Cr
-                let row = self.chroma_row as i64 + y;
-                touch(2 * x, row);
-                touch(2 * x + 1, row);
+                // "chroma rows are C+y and columns are 2x and 2x+1"
+                let row = u64::from(self.chroma_row) + y as u64;
+                take(Plane::Cb, 2 * x as u64, row);
+                take(Plane::Cr, 2 * x as u64 + 1, row);
             }
         }
-        Some(end as u64)
     }
 
-    fn line(&self) -> String {
-        let label = if self.case == 0 { String::new() } else { format!("P{} ", self.case) };
-        let range = if self.in_range() { "range" } else { "beyond" };
-        match self.end() {
-            Some(end) => format!("{label}{:08x} {range} inside {end}", self.word),
-            None => format!("{label}{:08x} {range} outside", self.word),
+    /// One more than the highest byte that a sample of the block stands at, or none where the luma block is not inside.
+    pub fn end(&self) -> Option<u64> {
+        if !self.inside() {
+            return None;
         }
-    }
-
-    fn bytes(&self) -> [u8; 24] {
-        let mut b = [0; 24];
-        b[0] = 1;
-        b[2..4].copy_from_slice(&self.chroma_row.to_le_bytes());
-        b[4..8].copy_from_slice(&self.pitch.to_le_bytes());
-        b[8..10].copy_from_slice(&self.columns.to_le_bytes());
-        b[10..12].copy_from_slice(&self.rows.to_le_bytes());
-        b[12..14].copy_from_slice(&self.column.to_le_bytes());
-        b[14..16].copy_from_slice(&self.row.to_le_bytes());
-        b[16..20].copy_from_slice(&self.word.to_le_bytes());
-        b[20] = self.x_code;
-        b[21] = self.y_code;
-        b[22] = self.case;
-        b
+        let mut end = 0;
+        self.each_sample(|_, column, row| end = end.max(byte_at(self.pitch, column, row) + 1));
+        Some(end)
     }
 }
 
@@ -125,154 +114,39 @@ pub fn word_of(x: i64, y: i64) -> u32 {
     (x.rem_euclid(0x1_0000) + 0x1_0000 * y.rem_euclid(0x1_0000)) as u32
 }
 
-fn block(size: (u32, u16, u16, u16), at: (u16, u16), codes: (u8, u8), v: (i64, i64)) -> Block {
-    let (pitch, chroma_row, columns, rows) = size;
-    Block {
-        pitch,
-        chroma_row,
-        columns,
-        rows,
-        column: at.0,
-        row: at.1,
-        x_code: codes.0,
-        y_code: codes.1,
-        word: word_of(v.0, v.1),
-        case: 0,
-    }
-}
-
-/// Vectors at and just past the ends of what fits: in the picture, in the codes, in sixteen bits.
-fn edges(place: u16, n: u16, code: u8) -> Vec<i64> {
-    let left = -32 * place as i64;
-    let right = 32 * (n as i64 - 1 - place as i64);
-    let limit = (1..code).fold(16i64, |l, _| l * 2);
-    let mut v: Vec<i64> = Vec::new();
-    for end in [left, right, -limit, limit - 1, 0] {
-        v.extend((end - 4..=end + 4).filter(|x| (-32768..=32767).contains(x)));
-    }
-    v.extend([-32768, -32767, 32766, 32767]);
-    v
-}
-
-fn blocks() -> Vec<Block> {
-    let small = (128, 16, 2, 1);
-    let mut all = Vec::new();
-    let document = [
-        (8, 3, 0, 0),
-        (9, 3, 1, 0),
-        (10, 3, 2, 0),
-        (11, 3, 32, 0),
-        (12, 3, 33, 0),
-        (12, 3, -1, 0),
-        (12, 3, 0, 1),
-        (13, 1, 15, 0),
-        (13, 1, 16, 0),
-    ];
-    for (case, code, x, y) in document {
-        all.push(Block { case, ..block(small, (0, 0), (code, code), (x, y)) });
-    }
-    // small pictures, each place, both directions at their edges
-    for (columns, rows) in [(1, 1), (3, 2)] {
-        for column in 0..columns {
-            for row in 0..rows {
-                for x in edges(column, columns, 2) {
-                    all.push(block((128, 16 * rows + 5, columns, rows), (column, row), (2, 1), (x, 0)));
-                }
-                for y in edges(row, rows, 2) {
-                    all.push(block((256, 16 * rows, columns, rows), (column, row), (1, 2), (0, y)));
-                }
-            }
-        }
-    }
-    // 1920 by 1080 has 68 macroblock rows, 1088 sample rows; and the largest picture there is
-    for size in [(2048, 1088, 120, 68), (131072, 32767, 256, 175)] {
-        for at in [(0, 0), (size.2 - 1, size.3 - 1), (size.2 / 2, size.3 / 2)] {
-            for x in edges(at.0, size.2, 9) {
-                all.push(block(size, at, (9, 9), (x, 0)));
-            }
-            for y in edges(at.1, size.3, 9) {
-                all.push(block(size, at, (9, 9), (-3, y)));
-            }
-        }
-    }
-    let mut r = Random::new(1);
-    for _ in 0..1200 {
-        let (columns, rows) = (r.within(1, 256) as u16, r.within(1, 175) as u16);
-        let at = (r.within(0, columns as i64 - 1) as u16, r.within(0, rows as i64 - 1) as u16);
-        let size = (128 * r.within(1, 1024) as u32, r.within(0, 32767) as u16, columns, rows);
-        let reach = |r: &mut Random, place: u16, n: u16| r.within(-32 * place as i64 - 20, 32 * (n as i64 - place as i64) + 20);
-        let v = (reach(&mut r, at.0, columns), reach(&mut r, at.1, rows));
-        all.push(block(size, at, (r.within(1, 9) as u8, r.within(1, 9) as u8), v));
-    }
-    // places and sizes that no batch has
-    for _ in 0..100 {
-        let size = (r.next() as u32 | 16, r.next() as u16, r.next() as u16, r.next() as u16);
-        let at = (r.next() as u16, r.next() as u16);
-        all.push(block(
-            size,
-            at,
-            (r.within(1, 9) as u8, r.within(1, 9) as u8),
-            (r.within(-32768, 32767), r.within(-32768, 32767)),
-        ));
-    }
-    all
-}
-
-/// Fields of a word: every position and width on two words, then others.
-fn fields() -> Vec<(u32, u8, u8, u32)> {
-    let mut all = Vec::new();
-    for hi in 0..34 {
-        for lo in 0..34 {
-            all.push((0x8123_c5f6, hi, lo, 0xffff_ffff));
-        }
-    }
-    let mut r = Random::new(2);
-    for _ in 0..400 {
-        all.push((r.next() as u32, r.within(0, 40) as u8, r.within(0, 40) as u8, r.next() as u32));
-    }
-    for (hi, lo) in [(255, 0), (255, 255), (0, 255), (31, 0), (32, 31)] {
-        all.push((0xdead_beef, hi, lo, 0x0123_4567));
-    }
-    all
-}
-
-pub fn write(dir: &Path) -> std::io::Result<()> {
-    let mut cases = Vec::new();
-    let mut lines = String::new();
-    for b in blocks() {
-        cases.extend(b.bytes());
-        writeln!(lines, "{}", b.line()).unwrap();
-    }
-    for (word, hi, lo, value) in fields() {
-        let mut b = [0; 24];
-        b[2] = hi;
-        b[3] = lo;
-        b[4..8].copy_from_slice(&word.to_le_bytes());
-        b[16..20].copy_from_slice(&value.to_le_bytes());
-        cases.extend(b);
-        writeln!(lines, "{:08x} {:08x}", bits(word, hi, lo), with_bits(word, hi, lo, value)).unwrap();
-    }
-    crate::store(dir, cases, lines)
-}
-
 #[cfg(test)]
 mod tests {
-    /// Document 01's cases P8 to P13, as far as buffer 2 and the vector go, with document 02's lengths. P13's follows from its
-    /// formula: the highest byte is Cr's at column 23, row 23, so 512 + 23·16 + 7 = 887.
+    use super::byte_at;
+
+    /// By another way of numbering: the bytes of a surface in their order, tile after tile along its rows, in a tile eight
+    /// strips, in a strip 32 rows, in a row 16 bytes. So every byte has one number, and they leave none out.
     #[test]
-    fn document_01() {
-        let lines: Vec<String> = super::blocks().iter().take(9).map(|b| b.line()).collect();
-        let due = [
-            "P8 00000000 range inside 384",
-            "P9 00000001 range inside 753",
-            "P10 00000002 range inside 882",
-            "P11 00000020 range inside 896",
-            "P12 00000021 range outside",
-            "P12 0000ffff range outside",
-            "P12 00010000 range outside",
-            "P13 0000000f range inside 888",
-            "P13 00000010 beyond inside 888",
-        ];
-        assert_eq!(lines, due);
+    fn bytes_in_order() {
+        for pitch in [128, 256, 384, 1152] {
+            let mut next = 0;
+            for tile_row in 0..5 {
+                for tile in 0..u64::from(pitch / 128) {
+                    for strip in 0..8 {
+                        for row in 0..32 {
+                            for byte in 0..16 {
+                                let (column, row) = (128 * tile + 16 * strip + byte, 32 * tile_row + row);
+                                assert_eq!(byte_at(pitch, column, row), next, "pitch {pitch}: {column}, {row}");
+                                next += 1;
+                            }
+                        }
+                    }
+                }
+            }
+            assert_eq!(next, 5 * 32 * u64::from(pitch));
+        }
+    }
+
+    /// The largest surface that a batch can name.
+    #[test]
+    fn far_bytes() {
+        assert_eq!(byte_at(131072, 0, 32768), 1 << 32);
+        assert_eq!(byte_at(131072, 131071, 32767), (1 << 32) - 1);
+        // the last chroma row of 175 macroblock rows is C + 8·175 − 1; 34166 = 32·1067 + 22 and 4095 = 31·128 + 7·16 + 15
+        assert_eq!(byte_at(131072, 4095, 32767 + 1399), 1067 * 32 * 131072 + 31 * 4096 + 7 * 512 + 22 * 16 + 15);
     }
 }

@@ -24,9 +24,12 @@ pub mod decode_valid;
 pub mod generate;
 pub mod interface_cases;
 pub mod leaf;
+pub mod leaf_cases;
 pub mod plain;
 pub mod program;
 pub mod random;
+#[cfg(test)]
+mod reached;
 pub mod record;
 pub mod record_cases;
 pub mod rules_macroblock;
@@ -34,6 +37,8 @@ pub mod rules_sequence;
 pub mod rules_state;
 pub mod rules_vectors;
 pub mod samples;
+pub mod tile_blocks;
+pub mod tile_cases;
 pub mod valid_cases;
 
 use std::path::Path;

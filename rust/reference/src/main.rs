@@ -6,14 +6,14 @@
 //!     reference samples DIR   small batches for the program, each with its line
 //!     reference interface DIR batches for the example in C, each with its line and its log
 
-use reference::{batch_cases, cases, interface_cases, leaf, samples};
+use reference::{batch_cases, cases, interface_cases, leaf_cases, samples};
 use std::path::Path;
 use std::process::ExitCode;
 
 fn main() -> ExitCode {
     let words: Vec<String> = std::env::args().skip(1).collect();
     let done = match words.iter().map(String::as_str).collect::<Vec<_>>()[..] {
-        ["leaf", dir] => leaf::write(Path::new(dir)),
+        ["leaf", dir] => leaf_cases::write(Path::new(dir)),
         ["command", dir] => cases::write(Path::new(dir)),
         ["batch", dir] => batch_cases::write(Path::new(dir)),
         ["samples", dir] => samples::write(Path::new(dir)),

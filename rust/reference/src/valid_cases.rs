@@ -6,7 +6,7 @@ use crate::batch_valid::{random_batch, random_frame};
 use crate::random::Random;
 
 /// Accepted beside the lengths needed, and refused beside one that is a byte less.
-fn both_ways(cases: &mut Cases, batch: &Batch, short: Option<usize>) {
+pub fn both_ways(cases: &mut Cases, batch: &Batch, short: Option<usize>) {
     let words = batch.words();
     let exact = needed(&words);
     assert_eq!(cases.push(words.clone(), exact).number, 0);
@@ -61,7 +61,7 @@ fn ends(cases: &mut Cases) {
             both_ways(cases, &still(&frame), Some(sort as usize));
         }
     }
-    // "any 64-bit numbers": one sample more than 2^32 bytes
+    // "any 64-bit numbers": samples past 2^32 bytes
     let words = still(&Frame { pitch: 131072, chroma_row: 32767, ..Frame::new(3, 1, 1) }).words();
     for length in [0, 0xffff_ffff, 0x1_0000_0000, 0xffff_ffff_ffff_ffff] {
         cases.push(words.clone(), [length; 4]);

@@ -35,7 +35,8 @@ pub struct At {
     pub before: Option<(usize, Command)>,
 }
 
-/// W and H: mostly a few macroblocks, now and then some dozens or a long line, rarely anything up to the largest picture.
+/// W and H: mostly a few macroblocks, now and then some dozens, a row a little more than a tile wide, or a long line, rarely
+/// anything up to the largest picture.
 fn shape(r: &mut Random) -> (u32, u32) {
     let mut near = |columns: i64, rows: i64| (near_ends(r, 1, columns) as u32, near_ends(r, 1, rows) as u32);
     let rare = near(256, 175);
@@ -46,7 +47,8 @@ fn shape(r: &mut Random) -> (u32, u32) {
         3..=52 => (rare.0, 1),
         53..=102 => (1, rare.1),
         103..=700 => some,
-        701..=6000 => few,
+        701..=1400 => (r.within(8, 10) as u32, 1),
+        1401..=6000 => few,
         _ => (r.within(1, 3) as u32, r.within(1, 2) as u32),
     }
 }
@@ -138,5 +140,27 @@ impl Draft {
         let last = *self.named("MACROBLOCK").last()?;
         self.batch = self.batch.set(last, LAST_IN_GROUP, 0);
         Some(())
+    }
+}
+
+#[cfg(test)]
+mod tests {
+    use super::*;
+    use crate::reached::{count, MARKS};
+
+    /// In the references all that tiles bring about comes up, in dozens of batches and more. Of the own samples the last
+    /// macroblock's chroma has the highest byte: no other sample has a later column or row.
+    #[test]
+    fn tiles() {
+        let mut r = Random::new(47);
+        let seen = count((0..10_000).map(|_| Draft::new(&mut r).batch.words()));
+        let of = |buffer: usize, mark: &'static str| seen.get(&(buffer, mark)).copied().unwrap_or(0);
+        for mark in MARKS {
+            assert!(of(2, mark) >= 80 && of(3, mark) >= 40, "{mark}: {seen:?}");
+        }
+        for buffer in 0..2 {
+            assert!(MARKS[..3].iter().all(|mark| of(buffer, mark) == 0), "{seen:?}");
+            assert!(MARKS[3..].iter().all(|mark| of(buffer, mark) >= 150), "{seen:?}");
+        }
     }
 }
