@@ -22,8 +22,8 @@ fn vector_below() -> Vec<u32> {
     rows(&Frame::new(2, 2, 2), &[still, still, moved(1, word_of(4, 5), 0), still]).words()
 }
 
-/// Document 01's P10. For a vector of zero the forward reference needs 384 bytes. Here the block has a ninth chroma column, bytes 16
-/// and 17 of a row, and these lie in the next strip of the tile: 882 bytes.
+/// Document 01's P10. For a vector of zero the forward reference needs 384 bytes. Here the block has a ninth chroma column, the
+/// bytes 16 and 17 of each row, and these lie in the tile's next strip: 882 bytes.
 fn p10() -> Vec<u32> {
     rows(&Frame::new(2, 2, 1), &[plain(1, word_of(2, 0), 0), moved(0, 0, 0)]).words()
 }
