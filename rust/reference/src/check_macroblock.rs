@@ -101,7 +101,7 @@ pub fn macroblock_rules(c: &Command, at: &Place) -> Vec<Rule> {
     all.extend(word_4(c, at));
     for (_, word, block) in at.predicted(c) {
         all.push((word, 9, block.in_range()));
-        all.push((word, 10, block.end().is_some()));
+        all.push((word, 10, block.inside()));
     }
     all
 }

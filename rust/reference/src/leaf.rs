@@ -22,6 +22,7 @@ pub fn with_bits(word: u32, hi: u8, lo: u8, value: u32) -> u32 {
 }
 
 /// "A byte at column b, row r is at (r div 32)·32·pitch + (b div 128)·4096 + ((b mod 128) div 16)·512 + (r mod 32)·16 + b mod 16."
+#[inline]
 pub fn byte_at(pitch: u32, column: u64, row: u64) -> u64 {
     let (b, r) = (column, row);
     (r / 32) * 32 * u64::from(pitch) + (b / 128) * 4096 + ((b % 128) / 16) * 512 + (r % 32) * 16 + b % 16
@@ -74,7 +75,7 @@ impl Block {
     }
 
     /// Whether the luma block lies "in columns 0 to 16W−1, rows 0 to 16H−1".
-    fn inside(&self) -> bool {
+    pub fn inside(&self) -> bool {
         let (vx, vy) = self.vector();
         let holds = |n: u16, mut samples: Range<i64>| samples.all(|at| (0..16 * n as i64).contains(&at));
         holds(self.columns, samples(16, self.column, vx)) && holds(self.rows, samples(16, self.row, vy))

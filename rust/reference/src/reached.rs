@@ -4,7 +4,7 @@ use crate::check_macroblock::Place;
 use crate::check_picture::{picture, surface};
 use crate::decode::commands;
 use crate::leaf::{byte_at, Block, Plane};
-use std::collections::{BTreeMap, BTreeSet};
+use std::collections::BTreeMap;
 
 pub const MARKS: [&str; 6] = [
     "luma has the highest byte",
@@ -27,7 +27,7 @@ pub struct Touched {
 
 impl Touched {
     pub fn add(&mut self, block: &Block) {
-        let mut chroma_tile_rows = BTreeSet::new();
+        let (mut first_tile_row, mut last_tile_row) = (u64::MAX, 0);
         block.each_sample(|plane, column, row| {
             let byte = byte_at(block.pitch, column, row);
             if self.highest.is_none_or(|highest| highest.0 < byte) {
@@ -35,10 +35,10 @@ impl Touched {
             }
             (self.last_column, self.last_row) = (self.last_column.max(column), self.last_row.max(row));
             if plane != Plane::Luma {
-                chroma_tile_rows.insert(row / 32);
+                (first_tile_row, last_tile_row) = (first_tile_row.min(row / 32), last_tile_row.max(row / 32));
             }
         });
-        self.chroma_in_two |= chroma_tile_rows.len() > 1;
+        self.chroma_in_two |= first_tile_row < last_tile_row;
     }
 
     /// The marks that apply.
