@@ -1,6 +1,5 @@
 -- The two laws of an address: it grows with the column and with the row. Whatever is claimed of touched bytes rests on them
--- and on nothing else of the address. The premise on the pitch: 32 rows of 16 bytes fit into a row of tiles. The third law is for
--- the code of src/addresses.rt alone.
+-- and on nothing else of the address. The premise on the pitch: 32 rows of 16 bytes fit into a row of tiles.
 use mathlib.Core.Path.{_≡_, ap}
 use mathlib.Core.Logic.{_⊎_, inl, inr}
 use Prim.Native.Nat.{ℕ, _+_, _*_, _/_, _%_, _≤_, _<_}
@@ -8,20 +7,15 @@ use native.Mathlib.Nat.{mul-le-mul-right, eq-or-lt-of-le, add-mul}
 use native.Mathlib.Omega.{arith}
 use Rattle.prediction.specs.Addresses.{address}
 
--- Sixteen columns further right are 512 bytes, 31·16 more than in plain rows, across tiles too: a row's part and a column's.
-pub address-parts : (pitch b r : ℕ) → address pitch b r ≡ r / 32 * 32 * pitch + (b / 16 * 16 * 31 + b + r % 32 * 16)
+-- Sixteen columns are one step of 512 bytes, across tiles too: a column's part and a row's part.
+pub address-parts : (pitch b r : ℕ) → address pitch b r ≡ r / 32 * 32 * pitch + (b / 16 * 512 + r % 32 * 16 + b % 16)
 unfolding address
 address-parts pitch b r =
-    let strip : b / 128 * 4096 + b % 128 / 16 * 512 + b % 16 ≡ b / 16 * 16 * 31 + b = omega arith in
+    let strip : b / 128 * 4096 + b % 128 / 16 * 512 ≡ b / 16 * 512 = omega arith in
     omega (arith, strip)
 
-column-part : (a b : ℕ) → a ≤ b → a / 16 * 16 * 31 + a ≤ b / 16 * 16 * 31 + b
+column-part : (a b : ℕ) → a ≤ b → a / 16 * 512 + a % 16 ≤ b / 16 * 512 + b % 16
 column-part a b h = omega arith
-
-tile-row : (pitch a b : ℕ) → a / 32 < b / 32 → a / 32 * 32 * pitch + 32 * pitch ≤ b / 32 * 32 * pitch
-tile-row pitch a b h =
-    let next : (a / 32 * 32 + 32) * pitch ≤ b / 32 * 32 * pitch = mul-le-mul-right pitch (omega arith) in
-    omega (arith, add-mul (a / 32 * 32) 32 pitch)
 
 pub address-column : (pitch row a b : ℕ) → 16 ≤ pitch → a ≤ b → address pitch a row ≤ address pitch b row
 address-column pitch row a b wide h = omega (arith, address-parts pitch a row, address-parts pitch b row, column-part a b h)
@@ -31,13 +25,6 @@ address-row pitch column a b wide h = by (eq-or-lt-of-le {n = a / 32} {m = b / 3
   where
     by : (a / 32 ≡ b / 32) ⊎ (a / 32 < b / 32) → address pitch column a ≤ address pitch column b
     by (inl same) = omega (arith, address-parts pitch column a, address-parts pitch column b, ap (λ (q : ℕ). q * 32 * pitch) same)
-    by (inr below) = omega (arith, address-parts pitch column a, address-parts pitch column b, tile-row pitch a b below)
-
--- A place that is in an earlier row of tiles, and at most one column further right, has the lower byte.
-pub address-tiles : (pitch column row column′ row′ : ℕ)
-    → 32 ≤ pitch
-    → column ≤ column′ + 1
-    → row < row′ / 32 * 32
-    → address pitch column row ≤ address pitch column′ row′
-address-tiles pitch column row column′ row′ wide h below =
-    omega (arith, address-parts pitch column row, address-parts pitch column′ row′, tile-row pitch row row′ (omega arith), column-part column (column′ + 1) h)
+    by (inr below) =
+        let tiles : (a / 32 * 32 + 32) * pitch ≤ b / 32 * 32 * pitch = mul-le-mul-right pitch (omega arith) in
+        omega (arith, address-parts pitch column a, address-parts pitch column b, add-mul (a / 32 * 32) 32 pitch)

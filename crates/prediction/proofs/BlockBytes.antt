@@ -1,14 +1,14 @@
 -- The extent of a block that lies inside is exact for the bytes that the block occupies: from the two address laws alone.
-use mathlib.Core.Path.{_≡_, refl, sym, ap₂, _∙_}
+use mathlib.Core.Path.{_≡_, refl}
 use mathlib.Core.Bool.{true}
 use mathlib.Core.Logic.{_⊎_, inl, inr}
-use Prim.Native.Nat.{ℕ, _+_, _*_, _≤_, _<_, max}
+use Prim.Native.Nat.{ℕ, _+_, _*_, _≤_, _<_}
 use native.Mathlib.Nat.{le-trans}
 use native.Mathlib.Omega.{arith}
 use lib.IntN.{ℤ}
-use Rattle.prediction.specs.Spans.{inside, halved}
+use Rattle.prediction.specs.Spans.{inside}
 use Rattle.prediction.specs.Addresses.{Plane, luma, cb, cr, address, sampleByte}
-use Rattle.prediction.specs.Extents.{joined, Exact}
+use Rattle.prediction.specs.Extents.{Exact}
 use Rattle.prediction.specs.Blocks.{sizeIn, componentIn, OccupiesIn, Occupies, blockInside, lastOf, planeExtent, blockExtent}
 use Rattle.prediction.specs.declared.Vector.{Vector}
 use Rattle.prediction.specs.declared.Surface.{Surface}
@@ -18,7 +18,7 @@ use Rattle.prediction.proofs.Integers.{both}
 use Rattle.prediction.proofs.SpanLaws.{last-covered, up-to-last}
 use Rattle.prediction.proofs.ChromaInside.{chroma-inside}
 use Rattle.prediction.proofs.AddressGrows.{address-column, address-row}
-use Rattle.prediction.proofs.ExtentLaws.{upTo, join-exact, join-bytes, exact-same}
+use Rattle.prediction.proofs.ExtentLaws.{join-exact, exact-same}
 
 -- ---- bytes grow with the samples, in each plane
 grows : {pitch a b c d : ℕ} → 16 ≤ pitch → a ≤ b → c ≤ d → address pitch a c ≤ address pitch b d
@@ -32,17 +32,6 @@ sample-grows s cr wide h k = grows wide (omega arith) (omega arith)
 -- Cr stands behind Cb
 cb-cr : (s : Surface) (x y : ℕ) → 16 ≤ s .pitch → sampleByte s cb x y ≤ sampleByte s cr x y
 cb-cr s x y w = address-column (s .pitch) (s .«chroma_row» + y) (2 * x) (2 * x + 1) w (omega arith)
-
--- ---- as the code makes it: from the last samples of luma and Cr, whichever stands higher
-pub block-end : (s : Surface) (at : Position) (v : Vector) {lx ly cx cy : ℕ}
-    → lx ≡ lastOf 16 (at .column) (v .x)
-    → ly ≡ lastOf 16 (at .row) (v .y)
-    → cx ≡ lastOf 8 (at .column) (halved (v .x))
-    → cy ≡ lastOf 8 (at .row) (halved (v .y))
-    → upTo (max (sampleByte s luma lx ly) (sampleByte s cr cx cy) + 1) ≡ blockExtent s at v
-block-end s at v {lx} {ly} {cx} {cy} elx ely ecx ecy =
-    sym (join-bytes (sampleByte s luma lx ly) (sampleByte s cr cx cy))
-    ∙ ap₂ (λ (m n : ℕ). joined (upTo (m + 1)) (upTo (n + 1))) (ap₂ (sampleByte s luma) elx ely) (ap₂ (sampleByte s cr) ecx ecy)
 
 -- ---- where the luma block lies inside, each plane's block does
 each-plane : (place n : ℕ) (v : ℤ) → inside 16 place n v ≡ true → (p : Plane) → inside (sizeIn p) place n (componentIn p v) ≡ true

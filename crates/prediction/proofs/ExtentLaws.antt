@@ -62,8 +62,3 @@ join-larger a b h = let e : max (a .end) (b .end) ≡ b .end = omega arith in ap
 pub join-empty : (a : Extent) → joined a emptyExtent ≡ a
 unfolding joined emptyExtent
 join-empty a = let e : max (a .end) 0 ≡ a .end = omega arith in ap upTo e
-
--- What two bytes touch goes up to the higher one.
-pub join-bytes : (m n : ℕ) → joined (upTo (m + 1)) (upTo (n + 1)) ≡ upTo (max m n + 1)
-unfolding joined
-join-bytes m n = let e : max (m + 1) (n + 1) ≡ max m n + 1 = omega arith in ap upTo e

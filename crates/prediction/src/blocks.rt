@@ -5,7 +5,7 @@ use crate::Grid;
 use crate::Position;
 use crate::Surface;
 use crate::Vector;
-use crate::addresses::higher;
+use crate::addresses::address;
 use crate::spans;
 ghost use mathlib.Core.Path.{_≡_};
 ghost use Prim.Native.Nat.{_+_, _*_, _/_, _≤_, _<_};
@@ -18,14 +18,16 @@ fn block_extent(surface: Surface, position: Position, x: u32, y: u32) -> Extent
     requires { ⌜ (x < 65536) × (16384 ≤ 16 * position .column + x / 2) × (y < 65536) × (16384 ≤ 16 * position .row + y / 2) ⌝ }
     ensures { λ r. ⌜ r ≡ blockExtent surface position (record { x = subℕ x 32768; y = subℕ y 32768 }) ⌝ }
 {
+    let pitch = surface.pitch;
     let column = position.column;
     let row = position.row;
     let luma_column = spans::last_of(16, column, x);
     let luma_row = spans::last_of(16, row, y);
+    let luma = address(pitch, luma_column, luma_row) + 1;
     let cr_column = 2 * spans::last_of(8, column, spans::halved(x)) + 1;
     let cr_row = surface.chroma_row as u32 + spans::last_of(8, row, spans::halved(y));
-    let end = higher(surface.pitch, luma_column, luma_row, cr_column, cr_row) + 1;
-    Extent { end }
+    let chroma = address(pitch, cr_column, cr_row) + 1;
+    Extent { end: luma }.join(Extent { end: chroma })
 }
 
 // The block that a vector displaces from a macroblock's position. The macroblock's own samples are the block of vector (0, 0).

@@ -3,7 +3,7 @@
 use crate::Extent;
 use crate::Line;
 use crate::Surface;
-use crate::addresses::higher;
+use crate::addresses::address;
 use crate::ranges::exponent;
 use crate::spans;
 use crate::vectors::vector_of;
@@ -129,8 +129,10 @@ pub fn reach_of(surface: Surface, column: u16, row: u16, word: u32) -> Extent
     if 16777216 < v {
         return Extent::empty();
     }
+    let pitch = surface.pitch;
+    let luma = address(pitch, luma_last(u), luma_last(v)) + 1;
     let cr_column = 2 * chroma_last(u, x) + 1;
     let cr_row = surface.chroma_row as u32 + chroma_last(v, y);
-    let end = higher(surface.pitch, luma_last(u), luma_last(v), cr_column, cr_row) + 1;
-    Extent { end }
+    let chroma = address(pitch, cr_column, cr_row) + 1;
+    Extent { end: luma }.join(Extent { end: chroma })
 }

@@ -10,9 +10,6 @@ use Rattle.prediction.proofs.addresses.address.Tie as tie
 product : (c : tie.Start) → c .args .row / 32 * 32 * c .args .pitch ≤ 2097151 * 4294967295
 product c = product-le 2097151 4294967295 (omega arith) (omega arith)
 
-mul-tiles : tie.Need-mul-tiles
-mul-tiles c = search needs
-
 mul-strip : tie.Need-mul-strip
 mul-strip c = search needs
 
@@ -22,20 +19,20 @@ mul-strip-2 c = search needs
 add-strip : tie.Need-add-strip
 add-strip c = search needs
 
-mul-strip-3 : tie.Need-mul-strip-3
-mul-strip-3 c = search needs
-
 add-strip-2 : tie.Need-add-strip-2
 add-strip-2 c = search needs
 
-cast-result : tie.Need-cast-result
-cast-result c = search needs
+mul-tiles : tie.Need-mul-tiles
+mul-tiles c = search needs
+
+cast-tiles : tie.Need-cast-tiles
+cast-tiles c = search needs
 
 mul-result : tie.Need-mul-result
 mul-result c = omega (arith, product c)
 
-cast-result-2 : tie.Need-cast-result-2
-cast-result-2 c = search needs
+cast-result : tie.Need-cast-result
+cast-result c = search needs
 
 add-result : tie.Need-add-result
 add-result c = omega (arith, product c)
@@ -46,4 +43,4 @@ returns c = (sym (address-parts (c .args .pitch) (c .args .column) (c .args .row
 pub address-spec : {M : Type 1} → statement M
 address-spec =
     tie.close
-    (tie.spec mul-tiles mul-strip mul-strip-2 add-strip mul-strip-3 add-strip-2 cast-result mul-result cast-result-2 add-result returns)
+    (tie.spec mul-strip mul-strip-2 add-strip add-strip-2 mul-tiles cast-tiles mul-result cast-result add-result returns)

@@ -1,10 +1,10 @@
-use mathlib.Core.Path.{ap, _∙_}
-use Prim.Native.Nat.{ℕ, _+_}
-use lib.IntN.{subℕ}
+use mathlib.Core.Path.{ap, ap₂, _∙_}
+use Prim.Native.Nat.{ℕ, _+_, _*_}
+use Rattle.prediction.specs.Addresses.{address}
+use Rattle.prediction.specs.Extents.{joined}
 use Rattle.prediction.specs.Blocks.{lastOf}
 use Rattle.prediction.proofs.ExtentLaws.{upTo}
 use Rattle.prediction.proofs.Components.{last-at}
-use Rattle.prediction.proofs.BlockBytes.{block-end}
 use native.Mathlib.Omega.{arith}
 use borrow.Author.Needs.{needs}
 use Rattle.prediction.proofs.blocks.block_extent.Statement.{statement}
@@ -15,6 +15,12 @@ last-of-requires c κs = search needs
 
 last-of-requires-2 : tie.Need-last-of-requires-2
 last-of-requires-2 c κs = search needs
+
+address-requires : tie.Need-address-requires
+address-requires c κs = search needs
+
+add-luma : tie.Need-add-luma
+add-luma c = search needs
 
 halved-requires : tie.Need-halved-requires
 halved-requires c κs = search needs
@@ -40,19 +46,23 @@ last-of-requires-4 c κs = omega arith
 add-cr-row : tie.Need-add-cr-row
 add-cr-row c = search needs
 
-higher-requires : tie.Need-higher-requires
-higher-requires c κs = omega arith
+address-requires-2 : tie.Need-address-requires-2
+address-requires-2 c κs = omega arith
 
-add-end : tie.Need-add-end
-add-end c = search needs
+add-chroma : tie.Need-add-chroma
+add-chroma c = search needs
+
+join-requires : tie.Need-join-requires
+join-requires c κs = search needs
 
 returns : tie.Need-returns
 returns c =
-    let c8 = c .before in
+    let c8 = c .before .before in
     let c7 = c8 .before in
     let c5 = c7 .before .before in
     let c4 = c5 .before in
-    let c2 = c4 .before in
+    let c3 = c4 .before in
+    let c2 = c3 .before in
     let c1 = c2 .before in
     let a = c1 .before .args in
     let at = a .position in
@@ -61,7 +71,10 @@ returns c =
     let cx =
     last-at 8 (at .column) (c4 .halved .result) (c5 .last-of3 .result) (omega arith) (c5 .last-of3 .ensures) ∙ ap (lastOf 8 (at .column)) (c4 .halved .ensures .0) in
     let cy = last-at 8 (at .row) (c7 .halved2 .result) (c8 .last-of4 .result) (omega arith) (c8 .last-of4 .ensures) ∙ ap (lastOf 8 (at .row)) (c7 .halved2 .ensures .0) in
-    ap (λ (n : ℕ). upTo (n + 1)) (c .higher .ensures .0) ∙ block-end (a .surface) at (record { x = subℕ (a .x) 32768; y = subℕ (a .y) 32768 }) x y cx cy
+    let luma = c3 .address .ensures .0 ∙ ap₂ (address (a .surface .pitch)) x y in
+    let chroma =
+    c .before .address2 .ensures .0 ∙ ap₂ (λ (m n : ℕ). address (a .surface .pitch) (2 * m + 1) (a .surface .«chroma_row» + n)) cx cy in
+    c .join .ensures ∙ ap₂ (λ (m n : ℕ). joined (upTo (m + 1)) (upTo (n + 1))) luma chroma
 
 pub block-extent-spec : {M : Type 1} → statement M
 block-extent-spec =
@@ -69,6 +82,8 @@ block-extent-spec =
     (tie.spec
     last-of-requires
     last-of-requires-2
+    address-requires
+    add-luma
     halved-requires
     last-of-requires-3
     mul-cr-column
@@ -77,6 +92,7 @@ block-extent-spec =
     halved-requires-2
     last-of-requires-4
     add-cr-row
-    higher-requires
-    add-end
+    address-requires-2
+    add-chroma
+    join-requires
     returns)
