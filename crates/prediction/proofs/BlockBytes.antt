@@ -22,7 +22,7 @@ use Rattle.prediction.proofs.ExtentLaws.{join-exact, exact-same}
 
 -- ---- bytes grow with the samples, in each plane
 grows : {pitch a b c d : ℕ} → 16 ≤ pitch → a ≤ b → c ≤ d → address pitch a c ≤ address pitch b d
-grows {pitch} {a} {b} {c} {d} wide h k = le-trans (address-column pitch c a b wide h) (address-row pitch b c d wide k)
+grows {pitch} {a} {b} {c} {d} wide h k = le-trans (address-column pitch c a b h) (address-row pitch b c d wide k)
 
 pub sample-grows : (s : Surface) (p : Plane) {x x′ y y′ : ℕ} → 16 ≤ s .pitch → x ≤ x′ → y ≤ y′ → sampleByte s p x y ≤ sampleByte s p x′ y′
 sample-grows s luma wide h k = grows wide h k
@@ -30,8 +30,8 @@ sample-grows s cb wide h k = grows wide (omega arith) (omega arith)
 sample-grows s cr wide h k = grows wide (omega arith) (omega arith)
 
 -- Cr stands behind Cb
-cb-cr : (s : Surface) (x y : ℕ) → 16 ≤ s .pitch → sampleByte s cb x y ≤ sampleByte s cr x y
-cb-cr s x y w = address-column (s .pitch) (s .«chroma_row» + y) (2 * x) (2 * x + 1) w (omega arith)
+cb-cr : (s : Surface) (x y : ℕ) → sampleByte s cb x y ≤ sampleByte s cr x y
+cb-cr s x y = address-column (s .pitch) (s .«chroma_row» + y) (2 * x) (2 * x + 1) (omega arith)
 
 -- ---- where the luma block lies inside, each plane's block does
 each-plane : (place n : ℕ) (v : ℤ) → inside 16 place n v ≡ true → (p : Plane) → inside (sizeIn p) place n (componentIn p v) ≡ true
@@ -83,7 +83,7 @@ module _ (s : Surface) (g : Grid) (at : Position) (v : Vector) (wide : 16 ≤ s 
       under : (byte : ℕ) → OccupiesIn cb s at v byte ⊎ OccupiesIn cr s at v byte → byte < planeExtent s at v cr .end
       under byte (inl o) =
           let behind = plane-below cr (sampleByte s cr (o .x) (o .y)) (record { x = o .x; y = o .y; in-columns = o .in-columns; in-rows = o .in-rows; stands = refl }) in
-          omega (arith, cb-cr s (o .x) (o .y) wide, o .stands)
+          omega (arith, cb-cr s (o .x) (o .y), o .stands)
       under byte (inr o) = plane-below cr byte o
 
   pub extent-exact : Exact (Occupies s at v) (blockExtent s at v)

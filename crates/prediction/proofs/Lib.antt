@@ -9,6 +9,7 @@ mod Components
 mod CodeRange
 mod ChromaInside
 mod AddressGrows
+mod AddressOnce
 mod SpanLaws
 mod BlockBytes
 mod LineCode

@@ -12,7 +12,8 @@ use lib.Signed.{leZ}
 use Rattle.prediction.specs.Vectors.{vectorOf}
 use Rattle.prediction.specs.Spans.{firstOf, halved}
 use Rattle.prediction.specs.Extents.{emptyExtent}
-use Rattle.prediction.specs.Blocks.{blockExtent, lastOf}
+use Rattle.prediction.specs.Addresses.{cr}
+use Rattle.prediction.specs.Blocks.{planeExtent, lastOf}
 use Rattle.prediction.specs.Lines.{limitOf, lineOf, inLine, reachOf}
 use Rattle.prediction.specs.declared.Vector.{Vector}
 use Rattle.prediction.specs.declared.Surface.{Surface}
@@ -109,12 +110,12 @@ module _ (s : Surface) (at : Position) (w x y : ℕ) (ex : subℕ x 32768 ≡ ve
   reach-by : (t u : Bool)
       → leZ (pos 0) (firstOf 16 (at .column) (subℕ x 32768)) ≡ t
       → leZ (pos 0) (firstOf 16 (at .row) (subℕ y 32768)) ≡ u
-      → reachOf s at w ≡ cond (t && u) (blockExtent s at (pair (subℕ x 32768) (subℕ y 32768))) emptyExtent
+      → reachOf s at w ≡ cond (t && u) (planeExtent s at (pair (subℕ x 32768) (subℕ y 32768)) cr) emptyExtent
   unfolding reachOf
   reach-by t u et eu =
       sym
-      (ap (λ (v : Vector). cond (leZ (pos 0) (firstOf 16 (at .column) (v .x)) && leZ (pos 0) (firstOf 16 (at .row) (v .y))) (blockExtent s at v) emptyExtent) (ap₂ pair ex ey))
-      ∙ ap₂ (λ (p q : Bool). cond (p && q) (blockExtent s at (pair (subℕ x 32768) (subℕ y 32768))) emptyExtent) et eu
+      (ap (λ (v : Vector). cond (leZ (pos 0) (firstOf 16 (at .column) (v .x)) && leZ (pos 0) (firstOf 16 (at .row) (v .y))) (planeExtent s at v cr) emptyExtent) (ap₂ pair ex ey))
+      ∙ ap₂ (λ (p q : Bool). cond (p && q) (planeExtent s at (pair (subℕ x 32768) (subℕ y 32768)) cr) emptyExtent) et eu
 
   pub reach-left : 32 * at .column + x < 32768 → reachOf s at w ≡ emptyExtent
   reach-left h = reach-by false _ (starts-before (at .column) x h) refl
@@ -122,7 +123,7 @@ module _ (s : Surface) (at : Position) (w x y : ℕ) (ex : subℕ x 32768 ≡ ve
   pub reach-above : (u : ℕ) → u + 32768 ≡ 32 * at .column + x → 32 * at .row + y < 32768 → reachOf s at w ≡ emptyExtent
   reach-above u e h = reach-by true false (starts (at .column) x u e) (starts-before (at .row) y h)
 
-  pub reach-inside : (u v : ℕ) → u + 32768 ≡ 32 * at .column + x → v + 32768 ≡ 32 * at .row + y → reachOf s at w ≡ blockExtent s at (pair (subℕ x 32768) (subℕ y 32768))
+  pub reach-inside : (u v : ℕ) → u + 32768 ≡ 32 * at .column + x → v + 32768 ≡ 32 * at .row + y → reachOf s at w ≡ planeExtent s at (pair (subℕ x 32768) (subℕ y 32768)) cr
   reach-inside u v e f = reach-by true true (starts (at .column) x u e) (starts (at .row) y v f)
 
 -- ---- a line as the code makes it: p is one less than the code

@@ -1,4 +1,4 @@
--- The test by lines is the range test and the inside test, and the reach of a block that lies inside is its extent.
+-- The test by lines is the range test and the inside test, and where chroma is highest the reach of a block that lies inside is its extent.
 use mathlib.Core.Path.{_≡_, refl, sym, ap, ap₂, subst, _∙_}
 use mathlib.Core.Bool.{Bool, true, false, cond, _&&_}
 use Prim.Native.Nat.{ℕ, _+_, _*_, _-_, _^_, _≤_, _<_}
@@ -9,11 +9,11 @@ use lib.IntN.{ℤ, pos, subℕ}
 use lib.Signed.{mag, leZ}
 use Rattle.prediction.specs.Vectors.{vectorOf, still}
 use Rattle.prediction.specs.Ranges.{inRange, vectorInRange}
-use Rattle.prediction.specs.Spans.{firstOf, inside}
+use Rattle.prediction.specs.Spans.{firstOf, inside, halved}
 use Rattle.prediction.specs.Addresses.{luma, cr}
 use Rattle.prediction.specs.Extents.{emptyExtent, joined}
-use Rattle.prediction.specs.Blocks.{blockInside, blockExtent, blockAt, lastOf}
-use Rattle.prediction.specs.Lines.{lineOf, inLine, vectorInLines, reachOf}
+use Rattle.prediction.specs.Blocks.{blockInside, planeExtent, blockExtent, blockAt, lastOf}
+use Rattle.prediction.specs.Lines.{lineOf, inLine, vectorInLines, reachOf, chromaHighest}
 use Rattle.prediction.specs.declared.Surface.{Surface}
 use Rattle.prediction.specs.declared.Grid.{Grid}
 use Rattle.prediction.specs.declared.Position.{Position}
@@ -22,10 +22,11 @@ use Rattle.prediction.proofs.Integers.{both}
 use Rattle.prediction.proofs.Components.{biasOf, bias-lt, bias-back, inside-means, inside-holds}
 use Rattle.prediction.proofs.CodeRange.{code-test}
 use Rattle.prediction.proofs.TwosComplement.{vector-fits}
-use Rattle.prediction.proofs.BlockBytes.{tests, sample-grows}
+use Rattle.prediction.proofs.BlockBytes.{tests}
+use Rattle.prediction.proofs.AddressGrows.{address-column, address-tiles}
 use Rattle.prediction.proofs.BlockLaws.{answer, own-inside}
 use Rattle.prediction.proofs.ExtentLaws.{join-larger}
-use Rattle.prediction.proofs.LineCode.{same, line-means, line-holds, one-up}
+use Rattle.prediction.proofs.LineCode.{same, line-means, line-holds, one-up, luma-at, chroma-at}
 
 -- ---- a line's test is the range of its code and the inside test
 swapped : (a b c d : Bool) → ((a && b) && (c && d)) ≡ ((a && c) && (b && d))
@@ -76,58 +77,95 @@ lines-exact g at cx cy w hx hy =
     ap₂ _&&_ (component-exact (g .columns) cx (at .column) (v .x) hx (f .0 .sfits)) (component-exact (g .rows) cy (at .row) (v .y) hy (f .1 .sfits))
     ∙ swapped (inRange 16 cx (v .x)) (inside 16 (at .column) (g .columns) (v .x)) (inRange 16 cy (v .y)) (inside 16 (at .row) (g .rows) (v .y))
 
+-- ---- where chroma is highest
+-- A block's last luma sample in one direction: it lies in the picture, and hardly beyond twice the last chroma sample.
+pub record LastSamples (place n : ℕ) (v : ℤ) : Type 0 where
+  pub in-picture : lastOf 16 place v < 16 * n
+  pub by-chroma : lastOf 16 place v ≤ 2 * lastOf 8 place (halved v) + 2
+
+last-samples : (place n : ℕ) (v : ℤ) → mag v < 32768 → inside 16 place n v ≡ true → LastSamples place n v
+last-samples place n v hv t =
+    let b = biasOf v in
+    let back = bias-back v hv in
+    let means = inside-means 16 place b 16384 n (ap (inside 16 place n) back ∙ t) in
+    let u : 32 * place + b - 32768 + 32768 ≡ 32 * place + b = omega (arith, means .0) in
+    let luma = luma-at place b (32 * place + b - 32768) _ u refl in
+    let chroma = chroma-at place b (32 * place + b - 32768) _ (bias-lt v hv) u refl in
+    subst (LastSamples place n) back
+    (record { in-picture = omega (arith, luma, means .1, u); by-chroma = omega (arith, luma, chroma, u) })
+
+-- There the last Cr byte is the highest byte of every block that lies inside.
+pub chroma-is-highest : (s : Surface) (g : Grid) (at : Position) (w : ℕ)
+    → chromaHighest s (g .rows) ≡ true
+    → blockInside g at (vectorOf w) ≡ true
+    → blockExtent s at (vectorOf w) ≡ planeExtent s at (vectorOf w) cr
+unfolding chromaHighest
+chroma-is-highest s g at w h t =
+    let v = vectorOf w in
+    let f = vector-fits w in
+    let two = tests g at v t in
+    let x = last-samples (at .column) (g .columns) (v .x) (f .0 .sfits) (two .0) in
+    let y = last-samples (at .row) (g .rows) (v .y) (f .1 .sfits) (two .1) in
+    let wide = both (leb 64 (s .«chroma_row») && leb (16 * g .rows) (s .«chroma_row»)) (leb 32 (s .pitch)) h in
+    let low = both (leb 64 (s .«chroma_row»)) (leb (16 * g .rows) (s .«chroma_row»)) (wide .0) in
+    let down = leb-true 64 (s .«chroma_row») (low .0) in
+    let behind = leb-true (16 * g .rows) (s .«chroma_row») (low .1) in
+    join-larger (planeExtent s at v luma) (planeExtent s at v cr)
+    (omega (
+      arith,
+      address-tiles (s .pitch) (lastOf 16 (at .column) (v .x)) (lastOf 16 (at .row) (v .y)) (2 * lastOf 8 (at .column) (halved (v .x)) + 1) (s .«chroma_row» + lastOf 8 (at .row) (halved (v .y))) (leb-true 32 (s .pitch) (wide .1)) (omega (arith, x .by-chroma)) (omega (arith, down, behind, y .in-picture, y .by-chroma)),
+    ))
+
 -- ---- reach
--- The reach of a block that lies inside is what the block touches.
-pub inside-reach : (s : Surface) (g : Grid) (at : Position) (w : ℕ) → blockInside g at (vectorOf w) ≡ true → blockAt s g at (vectorOf w) ≡ Inside (reachOf s at w)
+-- The reach of a block that lies inside is what the block touches, where chroma is highest.
+pub inside-reach : (s : Surface) (g : Grid) (at : Position) (w : ℕ)
+    → chromaHighest s (g .rows) ≡ true
+    → blockInside g at (vectorOf w) ≡ true
+    → blockAt s g at (vectorOf w) ≡ Inside (reachOf s at w)
 unfolding blockAt reachOf
-inside-reach s g at w t =
+inside-reach s g at w h t =
     let v = vectorOf w in
     let two = tests g at v t in
     let x = both (leZ (pos 0) (firstOf 16 (at .column) (v .x))) _ (two .0) in
     let y = both (leZ (pos 0) (firstOf 16 (at .row) (v .y))) _ (two .1) in
     ap (λ (u : Bool). cond u (Inside (blockExtent s at v)) Outside) t
-    ∙ ap (λ (u : Bool). Inside (cond u (blockExtent s at v) emptyExtent)) (sym (ap₂ _&&_ (x .0) (y .0)))
+    ∙ ap Inside (chroma-is-highest s g at w h t)
+    ∙ ap (λ (u : Bool). Inside (cond u (planeExtent s at v cr) emptyExtent)) (sym (ap₂ _&&_ (x .0) (y .0)))
 
 -- A vector that keeps the lines keeps its codes' ranges, and its block lies inside and touches its reach.
 pub in-lines : (s : Surface) (g : Grid) (at : Position) (cx cy w : ℕ)
     → 0 < g .columns
     → 0 < g .rows
+    → chromaHighest s (g .rows) ≡ true
     → vectorInLines (lineOf (g .columns) cx) (lineOf (g .rows) cy) (at .column) (at .row) w ≡ true
     → (vectorInRange (vectorOf w) cx cy ≡ true) × (blockAt s g at (vectorOf w) ≡ Inside (reachOf s at w))
-in-lines s g at cx cy w hx hy t =
+in-lines s g at cx cy w hx hy h t =
     let two = both (vectorInRange (vectorOf w) cx cy) (blockInside g at (vectorOf w)) (sym (lines-exact g at cx cy w hx hy) ∙ t) in
-    (two .0, inside-reach s g at w (two .1))
+    (two .0, inside-reach s g at w h (two .1))
 
 -- A macroblock's own samples are the reach of the zero word.
-pub still-reach : (s : Surface) (g : Grid) (at : Position) → at .column < g .columns → at .row < g .rows → blockAt s g at still ≡ Inside (reachOf s at 0)
+pub still-reach : (s : Surface) (g : Grid) (at : Position)
+    → at .column < g .columns
+    → at .row < g .rows
+    → chromaHighest s (g .rows) ≡ true
+    → blockAt s g at still ≡ Inside (reachOf s at 0)
 unfolding blockAt vectorOf
-still-reach s g at hx hy =
+still-reach s g at hx hy h =
     let own = own-inside s g at hx hy in
-    inside-reach s g at 0 (answer (blockInside g at still) (blockExtent s at still) (own .0) (own .1) .0)
+    inside-reach s g at 0 h (answer (blockInside g at still) (blockExtent s at still) (own .0) (own .1) .0)
 
-zero-reach : (s : Surface) (at : Position) → reachOf s at 0 ≡ blockExtent s at still
+zero-reach : (s : Surface) (at : Position) → reachOf s at 0 ≡ planeExtent s at still cr
 unfolding reachOf vectorOf
-zero-reach s at = ap (λ (t : Bool). cond t (blockExtent s at still) emptyExtent) (ap₂ _&&_ (here (at .column)) (here (at .row)))
+zero-reach s at = ap (λ (t : Bool). cond t (planeExtent s at still cr) emptyExtent) (ap₂ _&&_ (here (at .column)) (here (at .row)))
   where
     here : (place : ℕ) → leZ (pos 0) (firstOf 16 place (pos 0)) ≡ true
     here place = le-leb 0 (16 * place + 0) (omega arith)
 
-extent-grows : (s : Surface) (x y : ℕ)
-    → 16 ≤ s .pitch
-    → blockExtent s (record { column = x; row = y }) still .end ≤ blockExtent s (record { column = x + 1; row = y }) still .end
-unfolding joined
-extent-grows s x y wide =
-    omega (
-      arith,
-      sample-grows s luma {x = lastOf 16 x (pos 0)} {x′ = lastOf 16 (x + 1) (pos 0)} {y = lastOf 16 y (pos 0)} {y′ = lastOf 16 y (pos 0)} wide (omega arith) (omega arith),
-      sample-grows s cr {x = lastOf 8 x (pos 0)} {x′ = lastOf 8 (x + 1) (pos 0)} {y = lastOf 8 y (pos 0)} {y′ = lastOf 8 y (pos 0)} wide (omega arith) (omega arith),
-    )
-
--- The reach of a macroblock's own samples grows along the row: from the two address laws alone.
+-- The reach of a macroblock's own samples grows along the row, as the address does with the column.
 pub reach-grows : (s : Surface) (x y : ℕ)
-    → 16 ≤ s .pitch
     → joined (reachOf s (record { column = x; row = y }) 0) (reachOf s (record { column = x + 1; row = y }) 0) ≡ reachOf s (record { column = x + 1; row = y }) 0
-reach-grows s x y wide =
+reach-grows s x y =
     ap₂ joined (zero-reach s (record { column = x; row = y })) (zero-reach s (record { column = x + 1; row = y }))
-    ∙ join-larger (blockExtent s (record { column = x; row = y }) still) (blockExtent s (record { column = x + 1; row = y }) still) (extent-grows s x y wide)
+    ∙ join-larger (planeExtent s (record { column = x; row = y }) still cr) (planeExtent s (record { column = x + 1; row = y }) still cr)
+    (omega (arith, address-column (s .pitch) (s .«chroma_row» + lastOf 8 y (pos 0)) (2 * lastOf 8 x (pos 0) + 1) (2 * lastOf 8 (x + 1) (pos 0) + 1) (omega arith)))
     ∙ sym (zero-reach s (record { column = x + 1; row = y }))

@@ -10,8 +10,9 @@ use Rattle.prediction.specs.Spans.{firstOf, countOf, halved}
 use Rattle.prediction.specs.Addresses.{address}
 use Rattle.prediction.specs.Extents.{emptyExtent, joined}
 use Rattle.prediction.specs.Blocks.{blockAt}
-use Rattle.prediction.specs.Lines.{lineOf, reachOf}
+use Rattle.prediction.specs.Lines.{lineOf, reachOf, chromaHighest}
 use Rattle.prediction.specs.declared.Vector.{Vector}
+use Rattle.prediction.specs.declared.Surface.{Surface}
 use Rattle.prediction.specs.declared.Line.{Line}
 use Rattle.prediction.specs.declared.Extent.{Extent}
 use Rattle.prediction.proofs.TwosComplement.{pair as vector}
@@ -89,11 +90,21 @@ lines : map (lineOf 2) (0 ∷ 1 ∷ 9 ∷ 12 ∷ 255 ∷ []) ≡ line 32752 31 1
 unfolding lineOf
 lines = refl
 
--- the words of P8 to P12: the reach of those inside is their answer, and nothing is reached from before the picture
+-- the words of P8 to P12: how far Cr reaches. That is their answer but for P9, where luma is higher (753); nothing is reached from
+-- before the picture
+abbrev surface : ℕ → ℕ → Surface
+surface pitch row = record { pitch = pitch; «chroma_row» = row }
+
 abbrev reach : ℕ → Extent
-reach w = reachOf (record { pitch = 128; «chroma_row» = 16 }) (record { column = 0; row = 0 }) w
+reach w = reachOf (surface 128 16) (record { column = 0; row = 0 }) w
 
 reaches : map reach (0x00000000 ∷ 0x00000001 ∷ 0x00000002 ∷ 0x00000020 ∷ 0x0000ffff ∷ [])
-    ≡ upTo 384 ∷ upTo 753 ∷ upTo 882 ∷ upTo 896 ∷ upTo 0 ∷ []
-unfolding reachOf vectorOf joined emptyExtent address
+    ≡ upTo 384 ∷ upTo 384 ∷ upTo 882 ∷ upTo 896 ∷ upTo 0 ∷ []
+unfolding reachOf vectorOf emptyExtent address
 reaches = refl
+
+-- so chroma is not always highest there; it is from 64 rows of luma on, where no luma row is a chroma row
+highest : chromaHighest (surface 128 16) 1 ∷ chromaHighest (surface 128 48) 3 ∷ chromaHighest (surface 128 64) 4 ∷ chromaHighest (surface 128 64) 5 ∷ chromaHighest (surface 16 64) 4 ∷ []
+    ≡ false ∷ false ∷ true ∷ false ∷ false ∷ []
+unfolding chromaHighest
+highest = refl

@@ -1,8 +1,10 @@
 -- Vectors judged by numbers that are made once for a line of blocks, a row or a column of macroblocks alike. They say nothing
--- new: the laws of proofs/LineLaws.antt give back the range of the f code, the inside test and the block's extent.
+-- new: the laws of proofs/LineLaws.antt give back the range of the f code, the inside test and the block's extent, the last where
+-- chroma is highest.
 use Prim.Native.Nat.{ℕ, _+_, _-_, _*_, _^_, min}
 use mathlib.Core.Bool.{Bool, cond, _&&_}
 use lib.IntN.{ℤ, pos, subℕ, _+ℤ_}
+use lib.Dec.{leb}
 use lib.Signed.{leZ}
 use Rattle.prediction.specs.declared.Surface.{Surface}
 use Rattle.prediction.specs.declared.Position.{Position}
@@ -11,7 +13,8 @@ use Rattle.prediction.specs.declared.Line.{Line}
 use Rattle.prediction.specs.Vectors.{vectorOf}
 use Rattle.prediction.specs.Spans.{firstOf}
 use Rattle.prediction.specs.Extents.{emptyExtent}
-use Rattle.prediction.specs.Blocks.{blockExtent}
+use Rattle.prediction.specs.Addresses.{cr}
+use Rattle.prediction.specs.Blocks.{planeExtent}
 
 -- 16·2^(c−1) of specs/Ranges.antt, at most 32768: no component of a word lies further from 0.
 abbrev pub limitOf : ℕ → ℕ
@@ -32,7 +35,14 @@ inLine l place v =
 unfoldable pub vectorInLines : Line → Line → ℕ → ℕ → ℕ → Bool
 vectorInLines x y column row w = inLine x column (vectorOf w .x) && inLine y row (vectorOf w .y)
 
--- What the block touches that the word's vector displaces, where it starts in the picture; nothing where it starts before it.
+-- What the block touches that the word's vector displaces, up to its last Cr sample, where it starts in the picture; nothing where
+-- it starts before it.
 unfoldable pub reachOf : Surface → Position → ℕ → Extent
 reachOf s at w =
-    cond (leZ (pos 0) (firstOf 16 (at .column) (vectorOf w .x)) && leZ (pos 0) (firstOf 16 (at .row) (vectorOf w .y))) (blockExtent s at (vectorOf w)) emptyExtent
+    cond (leZ (pos 0) (firstOf 16 (at .column) (vectorOf w .x)) && leZ (pos 0) (firstOf 16 (at .row) (vectorOf w .y))) (planeExtent s at (vectorOf w) cr) emptyExtent
+
+-- A surface on which the last Cr byte of a block is its highest byte, in every picture of so many rows of macroblocks. Luma ends
+-- before chroma begins, and chroma begins so far down that a block's last luma row is in an earlier row of tiles than its last
+-- chroma row: that row is at least half as far down as the luma row.
+unfoldable pub chromaHighest : Surface → ℕ → Bool
+chromaHighest s rows = (leb 64 (s .«chroma_row») && leb (16 * rows) (s .«chroma_row»)) && leb 32 (s .pitch)

@@ -1,5 +1,5 @@
 // The byte at a column and a row of a picture buffer in Y tiles. A tile has 128 columns and 32 rows, and stands in memory as
-// eight strips of 16 columns, each with its rows one after the other; so strips of all tiles of a row follow each other.
+// eight strips of 16 columns, each with its rows one after the other; so the strips of a row of tiles follow each other.
 ghost use mathlib.Core.Path.{_≡_};
 ghost use Prim.Native.Nat.{_<_};
 ghost use Rattle.prediction.specs.Addresses.{address};

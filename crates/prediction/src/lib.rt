@@ -9,6 +9,7 @@ mod spans;
 mod vectors;
 
 pub use blocks::block_at;
+pub use lines::chroma_highest;
 pub use lines::line_of;
 pub use lines::reach_of;
 pub use lines::vector_in_lines;

@@ -11,7 +11,7 @@ ghost use mathlib.Core.Path.{_≡_};
 ghost use Prim.Native.Nat.{_+_, _*_, _-_, _/_, _%_, _^_, _≤_, _<_};
 ghost use lib.IntN.{subℕ};
 ghost use Rattle.prediction.specs.Vectors.{vectorOf};
-ghost use Rattle.prediction.specs.Lines.{lineOf, inLine, vectorInLines, reachOf};
+ghost use Rattle.prediction.specs.Lines.{lineOf, inLine, vectorInLines, reachOf, chromaHighest};
 
 // The place of the last of n blocks.
 fn last_place(n: u16) -> u16
@@ -99,15 +99,7 @@ fn below(b: u32) -> u32
     if b < 32768 { 1 } else { 0 }
 }
 
-// The last luma sample of a block that starts u half samples from the picture's edge.
-fn luma_last(u: u32) -> u32
-    requires { ⌜ u ≤ 16777216 ⌝ }
-    ensures { λ r. ⌜ r ≡ (u + 1) / 2 + 15 ⌝ }
-{
-    (u + 1) / 2 + 15
-}
-
-// Its last chroma sample: the component is halved towards zero.
+// The last chroma sample of a block that starts u half samples from the picture's edge: the component is halved towards zero.
 fn chroma_last(u: u32, b: u32) -> u32
     requires { ⌜ (u ≤ 16777216) × (b < 65536) ⌝ }
     ensures { λ r. ⌜ r ≡ (u + (1 - b / 32768) + 2) / 4 + 7 ⌝ }
@@ -115,7 +107,7 @@ fn chroma_last(u: u32, b: u32) -> u32
     (u + below(b) + 2) / 4 + 7
 }
 
-// What the block touches that the vector of a word displaces; nothing where it starts before the picture.
+// What the block touches that the vector of a word displaces, up to its last Cr sample; nothing where it starts before the picture.
 pub fn reach_of(surface: Surface, column: u16, row: u16, word: u32) -> Extent
     ensures { λ r. ⌜ r ≡ reachOf surface (record { column = column; row = row }) word ⌝ }
 {
@@ -129,10 +121,17 @@ pub fn reach_of(surface: Surface, column: u16, row: u16, word: u32) -> Extent
     if 16777216 < v {
         return Extent::empty();
     }
-    let pitch = surface.pitch;
-    let luma = address(pitch, luma_last(u), luma_last(v)) + 1;
     let cr_column = 2 * chroma_last(u, x) + 1;
     let cr_row = surface.chroma_row as u32 + chroma_last(v, y);
-    let chroma = address(pitch, cr_column, cr_row) + 1;
-    Extent { end: luma }.join(Extent { end: chroma })
+    let end = address(surface.pitch, cr_column, cr_row) + 1;
+    Extent { end }
+}
+
+// Whether the last Cr byte of a block is its highest byte, in every picture of so many rows of macroblocks.
+pub fn chroma_highest(surface: Surface, rows: u16) -> bool
+    ensures { λ r. ⌜ r ≡ chromaHighest surface rows ⌝ }
+{
+    let chroma_row = surface.chroma_row as u32;
+    let luma_rows = 16 * (rows as u32);
+    (64 <= chroma_row) & (luma_rows <= chroma_row) & (32 <= surface.pitch)
 }

@@ -103,6 +103,7 @@ module _ (p : Progress) (ws : List ℕ) (column due was at : ℕ) (f b : Extent)
         here = ap (λ (x : ℕ). placeIn p x) (sym ec);
         in-columns = left;
         in-rows = row .in-rows;
+        by-chroma = row .by-chroma;
         previous-is = λ n. absurd (n (length-take (at - was) (drop was ws) ∙ omega arith));
         stage-next = λ fl. refl;
         source-next = refl;
@@ -124,6 +125,7 @@ module _ (p : Progress) (ws : List ℕ) (column due was at : ℕ) (f b : Extent)
         here = place;
         in-columns = left;
         in-rows = row .in-rows;
+        by-chroma = row .by-chroma;
         previous-is = λ n. let nine : at - was ≡ 9 = omega arith in ap previousIn (same-part ws (sym nine) (sym ew));
         stage-next = λ fl. refl;
         source-next = own (p .extents .source);
@@ -145,7 +147,7 @@ module _ (p : Progress) (ws : List ℕ) (column due was at : ℕ) (f b : Extent)
       own e =
           join-assoc e (reachIn p m 0) (reachIn p column 0)
           ∙ ap (joined e)
-          (subst (λ (x : ℕ). joined (reachIn p m 0) (reachIn p x 0) ≡ reachIn p x 0) (sym ec) (reach-grows (p .frame .surface) m (p .position .row) (row .wide)))
+          (subst (λ (x : ℕ). joined (reachIn p m 0) (reachIn p x 0) ≡ reachIn p x 0) (sym ec) (reach-grows (p .frame .surface) m (p .position .row)))
 
   stands : (g : Going p ws column f b at) → Due p ws (g .k) due was → Stands p column due f b before (g .q)
   stands g d = by (g .reached) d

@@ -10,7 +10,7 @@ use lib.Dec.{eqb}
 use lib.ListN.{length}
 use Rattle.prediction.specs.Blocks.{blockAt}
 use Rattle.prediction.specs.Extents.{emptyExtent, joined}
-use Rattle.prediction.specs.Lines.{lineOf, vectorInLines, reachOf}
+use Rattle.prediction.specs.Lines.{lineOf, vectorInLines, reachOf, chromaHighest}
 use Rattle.prediction.specs.Ranges.{vectorInRange}
 use Rattle.prediction.specs.Vectors.{vectorOf, still}
 use Rattle.prediction.specs.declared.Block.{Block}
@@ -68,6 +68,7 @@ pub record Stands (p : Progress) (column due : ℕ) (f b : Extent) (before : Lis
   pub here : q .position ≡ placeIn p column
   pub in-columns : column < p .picture .grid .columns
   pub in-rows : p .position .row < p .picture .grid .rows
+  pub by-chroma : chromaHighest (p .frame .surface) (p .picture .grid .rows) ≡ true
   pub previous-is : (length before ≡ 0 → ⊥) → q .previous ≡ previousIn before
   pub stage-next : (fl : Flags) → stageAfter (q .stage) fl ≡ stageAfter (p .stage) fl
   pub source-next : joined (q .extents .source) (reachIn p column 0) ≡ joined (p .extents .source) (reachIn p column 0)
@@ -81,11 +82,12 @@ pub record Fits (q : Progress) (codes : Codes) (w : ℕ) (e : Extent) : Type 0 w
   pub block : blockAt (q .frame .surface) (q .picture .grid) (q .position) (vectorOf w) ≡ Inside e
 
 fits : (p q : Progress) (column w : ℕ) (codes : Codes) → column < p .picture .grid .columns → p .position .row < p .picture .grid .rows
+    → chromaHighest (p .frame .surface) (p .picture .grid .rows) ≡ true
     → q .frame ≡ p .frame → q .picture ≡ p .picture → q .position ≡ placeIn p column
     → vectorInLines (lineOf (p .picture .grid .columns) (codes .x)) (lineOf (p .picture .grid .rows) (codes .y)) column (p .position .row) w ≡ true
     → Fits q codes w (reachIn p column w)
-fits p q column w codes hc hr ef ep at e =
-    let two = in-lines (p .frame .surface) (p .picture .grid) (placeIn p column) (codes .x) (codes .y) w (omega arith) (omega arith) e in
+fits p q column w codes hc hr h ef ep at e =
+    let two = in-lines (p .frame .surface) (p .picture .grid) (placeIn p column) (codes .x) (codes .y) w (omega arith) (omega arith) h e in
     record {
       range = two .0;
       block =
@@ -212,13 +214,13 @@ module _ (p q : Progress) (column due : ℕ) (f b : Extent) (before ws : List �
   unfolding linesOf
   fits-forward w e =
       subst (λ (x : Picture). Fits q (x .forward) w (reachIn p column w)) (sym (s .same-picture))
-      (fits p q column w (p .picture .forward) (s .in-columns) (s .in-rows) (s .same-frame) (s .same-picture) (s .here) e)
+      (fits p q column w (p .picture .forward) (s .in-columns) (s .in-rows) (s .by-chroma) (s .same-frame) (s .same-picture) (s .here) e)
 
   fits-backward : (w : ℕ) → BackwardFits p column w → Fits q (q .picture .backward) w (reachIn p column w)
   unfolding linesOf
   fits-backward w e =
       subst (λ (x : Picture). Fits q (x .backward) w (reachIn p column w)) (sym (s .same-picture))
-      (fits p q column w (p .picture .backward) (s .in-columns) (s .in-rows) (s .same-frame) (s .same-picture) (s .here) e)
+      (fits p q column w (p .picture .backward) (s .in-columns) (s .in-rows) (s .by-chroma) (s .same-frame) (s .same-picture) (s .here) e)
 
   coding-is : (P : ℕ → Type 0) → P (p .picture .coding) → P (q .picture .coding)
   coding-is P h = subst (λ (x : Picture). P (x .coding)) (sym (s .same-picture)) h
@@ -280,7 +282,7 @@ module _ (p q : Progress) (column due : ℕ) (f b : Extent) (before ws : List �
       ap (λ (x : Frame). extentIn (blockAt (x .surface) (q .picture .grid) (q .position) still)) (s .same-frame)
       ∙ ap (λ (x : Picture). extentIn (blockAt (p .frame .surface) (x .grid) (q .position) still)) (s .same-picture)
       ∙ ap (λ (x : Position). extentIn (blockAt (p .frame .surface) (p .picture .grid) x still)) (s .here)
-      ∙ ap extentIn (still-reach (p .frame .surface) (p .picture .grid) (placeIn p column) (s .in-columns) (s .in-rows))
+      ∙ ap extentIn (still-reach (p .frame .surface) (p .picture .grid) (placeIn p column) (s .in-columns) (s .in-rows) (s .by-chroma))
 
   -- The progress after it.
   pub next-is : (f′ b′ : Extent) → Joins q ws f′ b′ → macroblockNext q ws ≡ afterRow p column f′ b′ ws

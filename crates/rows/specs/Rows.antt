@@ -12,6 +12,7 @@ use Rattle.progress.specs.declared.Progress.{Progress}
 use Rattle.macroblocks.specs.Placing.{macroblockRules}
 use Rattle.command.specs.Macroblocks.{kindIn, flagsIn}
 use Rattle.prediction.specs.Extents.{joined}
+use Rattle.prediction.specs.Lines.{chromaHighest}
 use Rattle.prediction.specs.declared.Extent.{Extent}
 use Rattle.prediction.specs.declared.Position.{Position}
 use Rattle.progress.specs.declared.Extents.{Extents}
@@ -67,9 +68,9 @@ pub record AfterRow (p : Progress) (column at : ℕ) (f b : Extent) (ws : List �
   pub none : at ≡ 0 → r .progress ≡ p
   pub some : 1 ≤ at → r .progress ≡ afterRow p (column - 1) f b (take (at - (at - 9)) (drop (at - 9) ws))
 
--- A row that is open: a group is, and a macroblock may come.
+-- A row that is open: a group is, and a macroblock may come. Blocks of the picture end with their last Cr byte.
 pub record OpenRow (p : Progress) : Type 0 where
   pub open-group : p .stage .«in_group» ≡ true
   pub in-rows : p .position .row < p .picture .grid .rows
   pub in-columns : p .position .column < p .picture .grid .columns
-  pub wide : 16 ≤ p .frame .surface .pitch
+  pub by-chroma : chromaHighest (p .frame .surface) (p .picture .grid .rows) ≡ true

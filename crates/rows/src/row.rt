@@ -123,7 +123,7 @@ pub fn judge_row(progress: Progress, words: &[u32]) -> Taken
     if grid.columns <= position.column {
         return Taken { progress, used: 0 };
     }
-    if progress.frame.surface.pitch < 16 {
+    if !prediction::chroma_highest(progress.frame.surface, grid.rows) {
         return Taken { progress, used: 0 };
     }
     take_row(progress, words)

@@ -1,10 +1,9 @@
-use mathlib.Core.Path.{_≡_, sym, ap₂, _∙_}
+use mathlib.Core.Path.{_≡_, sym, ap, ap₂, _∙_}
 use Prim.Native.Nat.{ℕ, _+_, _*_}
 use native.Mathlib.Omega.{arith}
-use Rattle.prediction.specs.Addresses.{address}
-use Rattle.prediction.specs.Extents.{joined}
+use Rattle.prediction.specs.Addresses.{cr, sampleByte}
 use Rattle.prediction.proofs.ExtentLaws.{upTo}
-use Rattle.prediction.proofs.LineCode.{luma-at, chroma-at, reach-left, reach-above, reach-inside}
+use Rattle.prediction.proofs.LineCode.{chroma-at, reach-left, reach-above, reach-inside}
 use borrow.Author.Needs.{needs}
 use Rattle.prediction.proofs.lines.reach_of.Statement.{statement}
 use Rattle.prediction.proofs.lines.reach_of.Tie as tie
@@ -47,18 +46,6 @@ returns-2 c =
     (reach-above (a .surface) (record { column = a .column; row = a .row }) (a .word) (x .x-of .result) (y .y-of .result) (x .x-of .ensures .0) (y .y-of .ensures .0) (d .before .start .result) (omega arith)
     (omega arith))
 
-luma-last-requires : tie.Need-luma-last-requires
-luma-last-requires c κs = search needs
-
-luma-last-requires-2 : tie.Need-luma-last-requires-2
-luma-last-requires-2 c κs = search needs
-
-address-requires : tie.Need-address-requires
-address-requires c κs = search needs
-
-add-luma : tie.Need-add-luma
-add-luma c = search needs
-
 chroma-last-requires : tie.Need-chroma-last-requires
 chroma-last-requires c κs = search needs
 
@@ -77,36 +64,26 @@ chroma-last-requires-2 c κs = search needs
 add-cr-row : tie.Need-add-cr-row
 add-cr-row c = search needs
 
-address-requires-2 : tie.Need-address-requires-2
-address-requires-2 c κs = search needs
+address-requires : tie.Need-address-requires
+address-requires c κs = search needs
 
-add-chroma : tie.Need-add-chroma
-add-chroma c = search needs
-
-join-requires : tie.Need-join-requires
-join-requires c κs = search needs
+add-end : tie.Need-add-end
+add-end c = search needs
 
 returns-3 : tie.Need-returns-3
 returns-3 c =
-    let c2 = c .before .before in
+    let c2 = c .before in
     let c1 = c2 .before .before in
-    let l2 = c1 .before .before in
-    let l1 = l2 .before in
-    let d = l1 .before .before .before in
+    let e = c1 .before in
+    let d = e .before .before in
     let y = d .before .before in
     let x = y .before in
     let a = x .before .args in
-    let u : d .before .start .result + 32768 ≡ 32 * a .column + x .x-of .result = omega (arith, d .before .start .ensures, l1 .before .before .if1 .left, x .x-of .ensures .1) in
-    let v : d .start2 .result + 32768 ≡ 32 * a .row + y .y-of .result = omega (arith, d .start2 .ensures, l1 .before .if2 .left, y .y-of .ensures .1) in
-    let lx = luma-at (a .column) (x .x-of .result) (d .before .start .result) (l1 .luma-last .result) u (l1 .luma-last .ensures) in
-    let ly = luma-at (a .row) (y .y-of .result) (d .start2 .result) (l2 .luma-last2 .result) v (l2 .luma-last2 .ensures) in
+    let u : d .before .start .result + 32768 ≡ 32 * a .column + x .x-of .result = omega (arith, d .before .start .ensures, e .before .if1 .left, x .x-of .ensures .1) in
+    let v : d .start2 .result + 32768 ≡ 32 * a .row + y .y-of .result = omega (arith, d .start2 .ensures, e .if2 .left, y .y-of .ensures .1) in
     let cx = chroma-at (a .column) (x .x-of .result) (d .before .start .result) (c1 .chroma-last .result) (x .x-of .ensures .1) u (c1 .chroma-last .ensures) in
     let cy = chroma-at (a .row) (y .y-of .result) (d .start2 .result) (c2 .chroma-last2 .result) (y .y-of .ensures .1) v (c2 .chroma-last2 .ensures) in
-    let luma = c1 .before .address .ensures .0 ∙ ap₂ (address (a .surface .pitch)) lx ly in
-    let chroma =
-    c .before .address2 .ensures .0 ∙ ap₂ (λ (m n : ℕ). address (a .surface .pitch) (2 * m + 1) (a .surface .«chroma_row» + n)) cx cy in
-    c .join .ensures
-    ∙ ap₂ (λ (m n : ℕ). joined (upTo (m + 1)) (upTo (n + 1))) luma chroma
+    ap (λ (n : ℕ). upTo (n + 1)) (c .address .ensures .0 ∙ ap₂ (sampleByte (a .surface) cr) cx cy)
     ∙ sym
     (reach-inside (a .surface) (record { column = a .column; row = a .row }) (a .word) (x .x-of .result) (y .y-of .result) (x .x-of .ensures .0) (y .y-of .ensures .0) (d .before .start .result) (d .start2 .result)
     u v)
@@ -123,17 +100,12 @@ reach-of-spec =
     returns
     empty-requires-2
     returns-2
-    luma-last-requires
-    luma-last-requires-2
-    address-requires
-    add-luma
     chroma-last-requires
     mul-cr-column
     add-cr-column
     cast-cr-row
     chroma-last-requires-2
     add-cr-row
-    address-requires-2
-    add-chroma
-    join-requires
+    address-requires
+    add-end
     returns-3)

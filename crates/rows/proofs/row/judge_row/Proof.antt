@@ -1,4 +1,4 @@
-use mathlib.Core.Path.{refl}
+use mathlib.Core.Path.{refl, sym, _∙_}
 use borrow.Author.Needs.{needs}
 use Rattle.answers.proofs.Judging.{kept}
 use Rattle.rows.proofs.Going.{nothing}
@@ -17,12 +17,20 @@ returns-3 c = nothing _ _
 returns-4 : tie.Need-returns-4
 returns-4 c = nothing _ _
 
+chroma-highest-requires : tie.Need-chroma-highest-requires
+chroma-highest-requires c κs = search needs
+
 take-row-requires : tie.Need-take-row-requires
 take-row-requires c κs =
-    record { open-group = kept refl (c .before .before .before .before .before .before .before .before .if1 .left); in-rows = search needs; in-columns = search needs; wide = search needs }
+    record {
+      open-group = kept refl (c .before .before .before .before .before .before .before .before .if1 .left);
+      in-rows = search needs;
+      in-columns = search needs;
+      by-chroma = sym (c .before .chroma-highest .ensures) ∙ kept refl (c .if4 .left);
+    }
 
 returns-5 : tie.Need-returns-5
 returns-5 c = search needs
 
 pub judge-row-spec : {M : Type 1} → statement M
-judge-row-spec = tie.close (tie.spec returns returns-2 returns-3 returns-4 take-row-requires returns-5)
+judge-row-spec = tie.close (tie.spec returns returns-2 returns-3 chroma-highest-requires returns-4 take-row-requires returns-5)

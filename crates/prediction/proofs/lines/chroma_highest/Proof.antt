@@ -1,0 +1,18 @@
+use mathlib.Core.Path.{refl}
+use borrow.Author.Needs.{needs}
+use Rattle.prediction.specs.Lines.{chromaHighest}
+use Rattle.prediction.proofs.lines.chroma_highest.Statement.{statement}
+use Rattle.prediction.proofs.lines.chroma_highest.Tie as tie
+
+cast-chroma-row : tie.Need-cast-chroma-row
+cast-chroma-row c = search needs
+
+mul-luma-rows : tie.Need-mul-luma-rows
+mul-luma-rows c = search needs
+
+returns : tie.Need-returns
+unfolding chromaHighest
+returns c = refl
+
+pub chroma-highest-spec : {M : Type 1} → statement M
+chroma-highest-spec = tie.close (tie.spec cast-chroma-row mul-luma-rows returns)
