@@ -1,8 +1,8 @@
 /* The loop over macroblocks. One that keeps every rule goes through it by a few comparisons of four words at once. What is
  * compared depends on the macroblock's kind by masks that are looked up, and not by branches: kinds follow each other
  * in any order, and a branch that is predicted wrongly takes longer than the whole macroblock. If a comparison fails,
- * macroblock.c finds out what is broken. An address is computed only for a block that reaches a row in which the buffer's
- * end can be raised. */
+ * macroblock.c finds out what is broken. An address is computed only for a block that reaches the strip of the buffer's end
+ * or a later one. */
 #include "kinds.h"
 #include "walk.h"
 
@@ -18,13 +18,15 @@
 /* What changes from macroblock to macroblock, kept in registers. */
 typedef struct {
     const uint32_t *before;
-    uint32_t row, columns_left;
+    uint32_t row;
     /* What is due in words 1 to 4: the position in word 2, bits 30 and 24 in word 4. */
     __m128i position, firsts;
     /* 32X, 32Y, 32X, 32Y: where the macroblock stands, in half samples. */
     __m128i place;
-    /* Vector words from which on a block is counted. */
-    int32_t forward, backward;
+    /* What a vector word makes a key with, here and in the row's last column; it says how far the row has come, too. */
+    uint32_t key, last_key;
+    /* The keys from which on a block is counted. */
+    uint32_t forward, backward;
 } cursor;
 
 /* What vectors are judged by: forward x, forward y, backward x, backward y. */
@@ -70,16 +72,15 @@ static range range_of(const picture *p)
 in_loop void go_to(cursor *g, const walk *w, uint32_t position)
 {
     g->row = position >> 16;
-    g->columns_left = w->p.columns - (position & 0xffff);
     g->position = words_of(0, position, 0, 0);
     g->place = place_of(position);
-    g->forward = least_raising(&w->forward, g->row);
-    g->backward = least_raising(&w->backward, g->row);
+    g->key = key_at(&w->p, position);
+    g->last_key = key_at(&w->p, (g->row << 16) + w->p.columns - 1);
 }
 
 in_loop uint32_t position_of(const cursor *g, const picture *p)
 {
-    return g->row << 16 | (p->columns - g->columns_left);
+    return (g->row << 16) + p->columns - 1 - (g->last_key - g->key) / 32;
 }
 
 in_loop void keep(walk *w, const cursor *g)
@@ -88,19 +89,19 @@ in_loop void keep(walk *w, const cursor *g)
     w->s = (progress){position_of(g, &w->p), firsts, g->before};
 }
 
-static __attribute__((noinline)) int32_t raised(const picture *p, reference *r, uint32_t position, uint32_t vector)
+static __attribute__((noinline)) uint32_t raised(const picture *p, reference *r, uint32_t position, uint32_t vector)
 {
     count_blocks(p, r, position, vector);
-    return least_raising(r, position >> 16);
+    return r->key;
 }
 
 /* Counts the blocks that a macroblock predicts. It has not been judged yet; if it is broken, nothing that was counted is
  * reported. */
 in_loop void count(walk *w, cursor *g, const uint32_t *m, uint32_t type)
 {
-    if (rarely((int32_t)m[5] >= g->forward) && m[1] & 0x0100)
+    if (rarely(key_of(g->key, m[5]) >= g->forward) && m[1] & 0x0100)
         g->forward = raised(&w->p, &w->forward, position_of(g, &w->p), m[5]);
-    if (type == B_PICTURE && rarely((int32_t)m[6] >= g->backward) && (m[1] & 0x2200) == 0x0200)
+    if (type == B_PICTURE && rarely(key_of(g->key, m[6]) >= g->backward) && (m[1] & 0x2200) == 0x0200)
         g->backward = raised(&w->p, &w->backward, position_of(g, &w->p), m[6]);
 }
 
@@ -156,7 +157,7 @@ in_loop int judge(cursor *g, const range *r, const uint32_t *m, uint32_t type)
 in_loop void advance(cursor *g, const uint32_t *m)
 {
     g->before = m;
-    g->columns_left--;
+    g->key += 32;
     g->firsts = _mm_and_si128(_mm_srli_epi32(load(m + 1), 1), words_of(0, 0, 0, 0x40000000));
     g->position = _mm_add_epi32(g->position, words_of(0, 1, 0, 0));
 }
@@ -181,6 +182,7 @@ in_loop const uint32_t *macroblocks(walk *w, const uint32_t *m, uint32_t type)
     const uint32_t *last = w->end - MACROBLOCK_WORDS;
     const range r = range_of(&w->p);
     cursor g = {.before = w->s.before, .firsts = words_of(0, 0, 0, w->s.firsts)};
+    g.forward = w->forward.key, g.backward = w->backward.key;
     go_to(&g, w, w->s.position);
     while (m <= last) {
         if (rarely(*m != MACROBLOCK)) {
@@ -195,13 +197,14 @@ in_loop const uint32_t *macroblocks(walk *w, const uint32_t *m, uint32_t type)
             return broken(w, &g, m);
         /* "last-in-slice wherever the column is W−1; last-in-group only with last-in-slice" */
         const uint32_t word_4 = m[4];
-        if (rarely(word_4 & LAST_IN_GROUP) || rarely(g.columns_left == 1)) {
+        const int row_ends = g.key == g.last_key;
+        if (rarely(word_4 & LAST_IN_GROUP) || rarely(row_ends)) {
             if (!(word_4 & LAST_IN_SLICE))
                 return broken(w, &g, m);
         }
         advance(&g, m);
         m += MACROBLOCK_WORDS;
-        if (rarely(g.columns_left == 0)) {
+        if (rarely(row_ends)) {
             go_to(&g, w, (g.row + 1) << 16);
             if (g.row == w->p.rows && !(word_4 & LAST_IN_GROUP))
                 break;
