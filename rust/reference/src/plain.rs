@@ -101,9 +101,16 @@ struct Check {
     first: u32,
     /// The macroblock before: kind (0 for none, too) and words 5 and 6, from which 7 and 8 follow.
     before: [u32; 3],
-    /// Row and column of the last chroma sample of any block in each reference, 0 for none.
-    last: [[i32; 2]; 2],
+    /// One more than the highest byte of any block in each reference, 0 for none.
+    ends: [u64; 2],
+    /// The strip of that byte in a picture of more than LOW rows, else 0: no block that ends in an earlier one raises the end.
+    strips: [u32; 2],
 }
+
+/// In pictures of more macroblock rows than this the highest byte of a vector's blocks is one of chroma. The last luma row is at
+/// least 8H rows above the last chroma row (it is at most 16H−1, C ≥ 16H, and chroma has half the rows), so from 4 macroblock
+/// rows on in another row of tiles, and that lies before all the rows of tiles below it.
+const LOW: u32 = 3;
 
 const FIRST_IN_SLICE: u32 = 1 << 30;
 const FIRST_IN_GROUP: u32 = 1 << 24;
@@ -245,16 +252,41 @@ impl Check {
             && (x + 32 * self.column as i32) as u32 <= 32 * (self.columns - 1)
     }
 
-    /// The last chroma sample of a block: its row and its column. With h the component v halved towards zero the block
-    /// starts at 8·place + floor(h/2) and has 8 samples, 9 if h is odd: the last is 8·place + 7 + ceil(h/2).
+    /// Where a byte stands. A row of tiles has 32 rows and is made of strips of 16 columns, 512 bytes each, one after the other.
+    /// The byte grows with the column and with the row, so a block's last sample is its highest.
+    fn byte(&self, column: u32, row: u32) -> u64 {
+        let row_of_tiles = u64::from(row >> 5) * u64::from(32 * self.pitch);
+        row_of_tiles + u64::from((column >> 4) << 9 | (row & 31) << 4 | (column & 15))
+    }
+
+    /// One more than the higher byte of two last samples, of luma and of chroma (Cr's), column and row each.
+    fn end(&self, luma: [u32; 2], chroma: [u32; 2]) -> u64 {
+        let cr = self.byte(2 * chroma[0] + 1, self.chroma_row + chroma[1]);
+        self.byte(luma[0], luma[1]).max(cr) + 1
+    }
+
+    /// Counts a vector's blocks. With h the component v halved towards zero the chroma block starts at 8·place + floor(h/2) and
+    /// has 8 samples, 9 if h is odd: the last is 8·place + 7 + ceil(h/2). Its strip is numbered by the row of tiles in the upper
+    /// half and by 16 bytes, 8 samples, in the lower.
     #[inline(always)]
     fn reach(&mut self, direction: usize, vector: u32) {
-        let along = |v: i32, place: u32| 8 * place as i32 + 7 + ((v + (v < 0) as i32 + 2) >> 2);
+        let last = |v: i32, place: u32| (8 * place as i32 + 7 + ((v + (v < 0) as i32 + 2) >> 2)) as u32;
         let [x, y] = components(vector);
-        let row = along(y, self.row);
-        if row >= self.last[direction][0] {
-            let column = along(x, self.column);
-            self.last[direction] = self.last[direction].max([row, column]);
+        let chroma = [last(x, self.column), last(y, self.row)];
+        let strip = (self.chroma_row + chroma[1]) >> 5 << 16 | chroma[0] >> 3;
+        if strip >= self.strips[direction] {
+            self.raise(direction, [x, y], chroma, strip);
+        }
+    }
+
+    /// The same where the end may be raised. The last sample of the luma block is 16·place + 15 + ceil(v/2).
+    #[inline(never)]
+    fn raise(&mut self, direction: usize, [x, y]: [i32; 2], chroma: [u32; 2], strip: u32) {
+        let last = |v: i32, place: u32| (16 * place as i32 + 15 + ((v + 1) >> 1)) as u32;
+        let end = self.end([last(x, self.column), last(y, self.row)], chroma);
+        if end > self.ends[direction] {
+            self.ends[direction] = end;
+            self.strips[direction] = if self.rows > LOW { strip } else { 0 };
         }
     }
 
@@ -342,15 +374,11 @@ impl Check {
         ]
     }
 
-    /// The lengths once W·H macroblocks have come. Chroma rows stand behind all of the luma (C ≥ 16H), and a row is no
-    /// longer than the pitch, so the highest byte is that of the last column in the last chroma row.
+    /// The lengths once W·H macroblocks have come. Buffers 0 and 1 are touched up to the last samples of the last macroblock.
     fn lengths(&self) -> [u64; 4] {
-        let end = |[row, column]: [i32; 2]| match row {
-            0 => 0,
-            _ => (u64::from(self.chroma_row) + row as u64) * u64::from(self.pitch) + 2 * column as u64 + 2,
-        };
-        let own = end([8 * self.rows as i32 - 1, 8 * self.columns as i32 - 1]);
-        [own, own, end(self.last[0]), end(self.last[1])]
+        let last = |size: u32| [size * self.columns - 1, size * self.rows - 1];
+        let own = self.end(last(16), last(8));
+        [own, own, self.ends[0], self.ends[1]]
     }
 }
 
@@ -487,8 +515,8 @@ mod tests {
     #[test]
     fn too_many_words() {
         let zeros = [&p1()[..], &[0, 0]].concat();
-        let answer = |most: usize, words: &[u32]| check_up_to(most, words, [2960; 4]);
-        assert_eq!(answer(39, &zeros), (0, 0, [2960, 2960, 0, 0]));
+        let answer = |most: usize, words: &[u32]| check_up_to(most, words, [384; 4]);
+        assert_eq!(answer(39, &zeros), (0, 0, [384, 384, 0, 0]));
         for most in 0..39 {
             assert_eq!(answer(most, &zeros), (27, most as u64, [0; 4]));
         }
