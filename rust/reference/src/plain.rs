@@ -259,10 +259,9 @@ impl Check {
         row_of_tiles + u64::from((column >> 4) << 9 | (row & 31) << 4 | (column & 15))
     }
 
-    /// One more than the higher byte of two last samples, of luma and of chroma (Cr's), column and row each.
-    fn end(&self, luma: [u32; 2], chroma: [u32; 2]) -> u64 {
-        let cr = self.byte(2 * chroma[0] + 1, self.chroma_row + chroma[1]);
-        self.byte(luma[0], luma[1]).max(cr) + 1
+    /// Where a Cr sample stands, behind its Cb.
+    fn cr(&self, [x, y]: [u32; 2]) -> u64 {
+        self.byte(2 * x + 1, self.chroma_row + y)
     }
 
     /// Counts a vector's blocks. With h the component v halved towards zero the chroma block starts at 8·place + floor(h/2) and
@@ -283,7 +282,8 @@ impl Check {
     #[inline(never)]
     fn raise(&mut self, direction: usize, [x, y]: [i32; 2], chroma: [u32; 2], strip: u32) {
         let last = |v: i32, place: u32| (16 * place as i32 + 15 + ((v + 1) >> 1)) as u32;
-        let end = self.end([last(x, self.column), last(y, self.row)], chroma);
+        let luma = self.byte(last(x, self.column), last(y, self.row));
+        let end = self.cr(chroma).max(luma) + 1;
         if end > self.ends[direction] {
             self.ends[direction] = end;
             self.strips[direction] = if self.rows > LOW { strip } else { 0 };
@@ -374,10 +374,10 @@ impl Check {
         ]
     }
 
-    /// The lengths once W·H macroblocks have come. Buffers 0 and 1 are touched up to the last samples of the last macroblock.
+    /// The lengths once W·H macroblocks have come. Buffers 0 and 1 are touched up to the last Cr sample: it stands below the last
+    /// luma sample, in the same column.
     fn lengths(&self) -> [u64; 4] {
-        let last = |size: u32| [size * self.columns - 1, size * self.rows - 1];
-        let own = self.end(last(16), last(8));
+        let own = self.cr([8 * self.columns - 1, 8 * self.rows - 1]) + 1;
         [own, own, self.ends[0], self.ends[1]]
     }
 }

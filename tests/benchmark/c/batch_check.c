@@ -146,13 +146,11 @@ static void walk_batch(walk *w)
 }
 
 /* "13 comes after the whole batch", at the "lowest such buffer". Every macroblock touches its own samples in buffers 0 and
- * 1, so the last one touches the highest byte. */
+ * 1, so the last one touches the highest byte, and that is Cr's: it stands below the last luma sample, in the same column. */
 static batch_answer beside(const walk *w, const uint64_t lengths[4])
 {
     const picture *p = &w->p;
-    uint64_t luma = luma_byte(p, 16 * p->columns - 1, 16 * p->rows - 1) + 1;
-    uint64_t chroma = cr_byte(p, 8 * p->columns - 1, 8 * p->rows - 1) + 1;
-    uint64_t whole = luma > chroma ? luma : chroma;
+    uint64_t whole = cr_byte(p, 8 * p->columns - 1, 8 * p->rows - 1) + 1;
     batch_answer answer = {0, 0, {whole, whole, w->forward.end, w->backward.end}};
     for (uint64_t n = 0; n < 4; n++) {
         if (lengths[n] < answer.lengths[n]) {
