@@ -103,14 +103,11 @@ struct Check {
     before: [u32; 3],
     /// One more than the highest byte of any block in each reference, 0 for none.
     ends: [u64; 2],
-    /// The strip of that byte in a picture of more than LOW rows, else 0: no block that ends in an earlier one raises the end.
+    /// The strip where the chroma ends that was counted with it. A vector whose chroma ends in an earlier one does not raise the
+    /// end, and neither does its luma: that ends at most one column further than Cr, so in no later strip than this one, and
+    /// here in a row above chroma's.
     strips: [u32; 2],
 }
-
-/// In pictures of more macroblock rows than this the highest byte of a vector's blocks is one of chroma. The last luma row is at
-/// least 8H rows above the last chroma row (it is at most 16H−1, C ≥ 16H, and chroma has half the rows), so from 4 macroblock
-/// rows on in another row of tiles, and that lies before all the rows of tiles below it.
-const LOW: u32 = 3;
 
 const FIRST_IN_SLICE: u32 = 1 << 30;
 const FIRST_IN_GROUP: u32 = 1 << 24;
@@ -286,7 +283,7 @@ impl Check {
         let end = self.cr(chroma).max(luma) + 1;
         if end > self.ends[direction] {
             self.ends[direction] = end;
-            self.strips[direction] = if self.rows > LOW { strip } else { 0 };
+            self.strips[direction] = strip;
         }
     }
 

@@ -4,15 +4,12 @@
 
 #include "address.h"
 
-/* In pictures of more macroblock rows than this the highest byte of a vector's blocks is one of chroma. The last luma row is at
- * least 8H rows above the last chroma row: it is at most 16H−1, C ≥ 16H, and chroma's y is at least half of it less 1. From 4
- * macroblock rows on that is another row of tiles, all of which lies before those below it. */
-enum { LOW = 3 };
-
 typedef struct {
     /* One more than the highest byte touched so far, or 0. */
     uint64_t end;
-    /* No vector with a lower key raises the end; 0 in a low picture. */
+    /* The key of the strip where the chroma ends that was counted with it, or 0. A vector with a lower key does not raise the end:
+     * its chroma stands in an earlier strip, and its luma, which ends at most one column further than Cr, in no later strip than
+     * that one, and there in a row above chroma's. */
     uint32_t key;
 } reference;
 
@@ -57,8 +54,7 @@ static inline void count_blocks(const picture *p, reference *r, uint32_t positio
     if (end <= r->end)
         return;
     r->end = end;
-    if (p->rows > LOW)
-        r->key = ((p->chroma_row & 31) + y) >> 5 << 23 | x >> 3 << 5;
+    r->key = ((p->chroma_row & 31) + y) >> 5 << 23 | x >> 3 << 5;
 }
 
 #endif
