@@ -1,5 +1,5 @@
-//! Lengths by Y tiles: the checker in C and the plain one give the second program's where luma is the highest byte, at the borders
-//! of tiles and strips, and whichever block comes first.
+//! Lengths by Y tiles: the checker in C and the plain one give the second program's where luma is the highest byte, at the
+//! borders of tiles and strips, and whichever block comes first.
 
 use benchmark::batch_check;
 use reference::batch::{moved, rows, Frame};
@@ -64,9 +64,9 @@ fn own_samples() {
     }
 }
 
-/// In pictures of two columns every y that a macroblock may have, of four and five rows every fourth, at all first chroma rows near
-/// luma. With x 1 luma reaches the next strip and chroma does not: luma is highest where both are in one row of tiles, which one
-/// macroblock row and three allow.
+/// In pictures of two columns every y that a macroblock may have, of four and five rows every fourth, at all first chroma rows
+/// near luma. With x 1 luma reaches the next strip and chroma does not: luma is highest where both are in one row of tiles,
+/// which one macroblock row and three allow.
 #[test]
 fn low_pictures() {
     let mut counts = [[0; 2]; 6];
@@ -110,7 +110,7 @@ fn columns() {
 #[test]
 fn one_block_after_another() {
     let mut r = Random::new(76);
-    let mut raised = [0; 2];
+    let (mut raised, mut after_luma) = ([0; 2], 0);
     for _ in 0..20_000 {
         let (columns, rows) = (r.within(1, 4) as u32, r.within(1, 6) as u32);
         let frame = frame(columns, rows, 128 * r.within(1, 3) as u32, 16 * rows + r.within(0, 40) as u32);
@@ -130,9 +130,11 @@ fn one_block_after_another() {
         if first < second {
             let both = held(&picture(&frame, &[earlier, later]));
             raised[usize::from(both[2] > alone[2])] += 1;
+            after_luma += in_luma(alone)[0];
         }
     }
-    assert!(raised.iter().all(|count| *count > 2000), "{raised:?}");
+    assert!(raised.iter().all(|count| *count > 2000) && after_luma > 20, "{raised:?} {after_luma}");
+    println!("{raised:?} {after_luma}");
 }
 
 /// Pictures with a vector in every macroblock, of all heights around a row of tiles of chroma and many widths.

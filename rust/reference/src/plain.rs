@@ -103,9 +103,9 @@ struct Check {
     before: [u32; 3],
     /// One more than the highest byte of any block in each reference, 0 for none.
     ends: [u64; 2],
-    /// The strip where the chroma ends that was counted with it. A vector whose chroma ends in an earlier one does not raise the
-    /// end, and neither does its luma: that ends at most one column further than Cr, so in no later strip than this one, and
-    /// here in a row above chroma's.
+    /// The strip where the chroma ends that was counted with it. A vector whose chroma ends in an earlier one does not raise
+    /// the end, and neither does its luma: that ends at most one column further than its Cr, so in no later strip than this
+    /// one, and here in a row above chroma's.
     strips: [u32; 2],
 }
 
@@ -371,8 +371,8 @@ impl Check {
         ]
     }
 
-    /// The lengths once W·H macroblocks have come. Buffers 0 and 1 are touched up to the last Cr sample: it stands below the last
-    /// luma sample, in the same column.
+    /// The lengths once W·H macroblocks have come. Buffers 0 and 1 are touched up to the last Cr sample: it stands below the
+    /// last luma sample, in the same column.
     fn lengths(&self) -> [u64; 4] {
         let own = self.cr([8 * self.columns - 1, 8 * self.rows - 1]) + 1;
         [own, own, self.ends[0], self.ends[1]]

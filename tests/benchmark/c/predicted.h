@@ -7,8 +7,8 @@
 typedef struct {
     /* One more than the highest byte touched so far, or 0. */
     uint64_t end;
-    /* The key of the strip where the chroma ends that was counted with it, or 0. A vector with a lower key does not raise the end:
-     * its chroma stands in an earlier strip, and its luma, which ends at most one column further than Cr, in no later strip than
+    /* The key of the strip where the chroma ends that was counted with it, or 0. A vector with a lower key does not raise the
+     * end: its chroma ends in an earlier strip, and its luma, at most one column further than its Cr, in no later strip than
      * that one, and there in a row above chroma's. */
     uint32_t key;
 } reference;
@@ -29,9 +29,8 @@ static inline uint32_t chroma_last(uint32_t place, int32_t v)
 }
 
 /* A key says in which strip chroma ends: the row of tiles, from that of row C on, in 31:23, and the column in 15:0, in quarters
- * of a sample, of which 32 are a strip. A vector's key is its word added to this, without the bits between. It is the exact one or
- * up to two quarters more: chroma_last is a quarter, rounded down, of 32·place + 30 + v, or 31 + v if v is negative, and there is
- * a carry from a negative vx. */
+ * of a sample, of which 32 are a strip. A vector's key is its word added to this, without the bits between. It is never too low:
+ * chroma_last is (32·place + 30 + v) div 4, with 31 if v is negative, and a negative vx adds one to the upper half. */
 static inline uint32_t key_at(const picture *p, uint32_t position)
 {
     return 32 * position + ((4 * (p->chroma_row & 31) + 31) << 16 | 31);
