@@ -37,8 +37,11 @@ fn frame(columns: u32, rows: u32, pitch: u32, chroma_row: u32) -> Frame {
     Frame { pitch, chroma_row, codes: [9; 4], ..Frame::new(3, columns, rows) }
 }
 
+/// x and y.
+type Vector = (i64, i64);
+
 /// Intra, but for these macroblocks: number, forward and backward vector.
-fn picture(frame: &Frame, predicted: &[(u32, (i64, i64), (i64, i64))]) -> Vec<u32> {
+fn picture(frame: &Frame, predicted: &[(u32, Vector, Vector)]) -> Vec<u32> {
     let mut all: Vec<Command> = vec![moved(0, 0, 0); frame.macroblocks()];
     for &(k, (forward_x, forward_y), (backward_x, backward_y)) in predicted {
         all[k as usize] = plain(3, word_of(forward_x, forward_y), word_of(backward_x, backward_y));
