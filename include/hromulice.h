@@ -26,11 +26,12 @@
 #include <stdint.h>
 
 /* The version of this header. A major step: an earlier caller has to be changed or compiled again. A minor step: functions were added,
- * and an earlier caller works as it is. A patch step: neither. HROMULICE_VERSION is one number, greater for a later version. */
+ * and an earlier caller works as it is. A patch step: neither, but answers may be others: 1.0.1 counts lengths in Y tiles, 1.0.0 counted
+ * plain rows. HROMULICE_VERSION is one number, greater for a later version. */
 #define HROMULICE_VERSION_MAJOR 1
 #define HROMULICE_VERSION_MINOR 0
-#define HROMULICE_VERSION_PATCH 0
-#define HROMULICE_VERSION_TEXT "1.0.0"
+#define HROMULICE_VERSION_PATCH 1
+#define HROMULICE_VERSION_TEXT "1.0.1"
 #define HROMULICE_VERSION (HROMULICE_VERSION_MAJOR * 65536u + HROMULICE_VERSION_MINOR * 256u + HROMULICE_VERSION_PATCH)
 
 /* Before a function: an answer that is dropped is a warning. */
@@ -71,7 +72,12 @@ enum {
     HROMULICE_TOO_MANY_WORDS = 27  /* 4294967295 */
 };
 
-/* Lengths in bytes of the four picture buffers: source, reconstructed picture, forward and backward reference. */
+/* Lengths in bytes of the four picture buffers: source, reconstructed picture, forward and backward reference. All are Y-tiled, and bytes
+ * are counted as they stand in memory: byte b of row r is at
+ *
+ *     r / 32 * 32 * pitch + b / 128 * 4096 + b % 128 / 16 * 512 + r % 32 * 16 + b % 16
+ *
+ * where luma (x, y) is byte x of row y, and Cb and Cr (x, y) are bytes 2x and 2x + 1 of the row that is y below the first chroma row. */
 typedef struct {
     uint64_t source;
     uint64_t reconstructed;

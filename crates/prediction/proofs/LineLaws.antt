@@ -13,7 +13,7 @@ use Rattle.prediction.specs.Spans.{firstOf, inside, halved}
 use Rattle.prediction.specs.Addresses.{luma, cr}
 use Rattle.prediction.specs.Extents.{emptyExtent, joined}
 use Rattle.prediction.specs.Blocks.{blockInside, planeExtent, blockExtent, blockAt, lastOf}
-use Rattle.prediction.specs.Lines.{lineOf, inLine, vectorInLines, reachOf, chromaHighest}
+use Rattle.prediction.specs.Lines.{lineOf, inLine, vectorInLines, reachOf, chromaFrom, chromaHighest}
 use Rattle.prediction.specs.declared.Surface.{Surface}
 use Rattle.prediction.specs.declared.Grid.{Grid}
 use Rattle.prediction.specs.declared.Position.{Position}
@@ -106,9 +106,9 @@ chroma-is-highest s g at w h t =
     let two = tests g at v t in
     let x = last-samples (at .column) (g .columns) (v .x) (f .0 .sfits) (two .0) in
     let y = last-samples (at .row) (g .rows) (v .y) (f .1 .sfits) (two .1) in
-    let wide = both (leb 64 (s .«chroma_row») && leb (16 * g .rows) (s .«chroma_row»)) (leb 32 (s .pitch)) h in
-    let low = both (leb 64 (s .«chroma_row»)) (leb (16 * g .rows) (s .«chroma_row»)) (wide .0) in
-    let down = leb-true 64 (s .«chroma_row») (low .0) in
+    let wide = both (leb chromaFrom (s .«chroma_row») && leb (16 * g .rows) (s .«chroma_row»)) (leb 32 (s .pitch)) h in
+    let low = both (leb chromaFrom (s .«chroma_row»)) (leb (16 * g .rows) (s .«chroma_row»)) (wide .0) in
+    let down = leb-true chromaFrom (s .«chroma_row») (low .0) in
     let behind = leb-true (16 * g .rows) (s .«chroma_row») (low .1) in
     join-larger (planeExtent s at v luma) (planeExtent s at v cr)
     (omega (

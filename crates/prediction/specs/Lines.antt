@@ -35,14 +35,18 @@ inLine l place v =
 unfoldable pub vectorInLines : Line → Line → ℕ → ℕ → ℕ → Bool
 vectorInLines x y column row w = inLine x column (vectorOf w .x) && inLine y row (vectorOf w .y)
 
+-- The least first chroma row of `chromaHighest`.
+abbrev pub chromaFrom : ℕ
+chromaFrom = 64
+
 -- What the block touches that the word's vector displaces, up to its last Cr sample, where it starts in the picture; nothing where
 -- it starts before it.
 unfoldable pub reachOf : Surface → Position → ℕ → Extent
 reachOf s at w =
     cond (leZ (pos 0) (firstOf 16 (at .column) (vectorOf w .x)) && leZ (pos 0) (firstOf 16 (at .row) (vectorOf w .y))) (planeExtent s at (vectorOf w) cr) emptyExtent
 
--- A surface on which the last Cr byte of a block is its highest byte, in every picture of so many rows of macroblocks. Luma ends
--- before chroma begins, and chroma begins so far down that a block's last luma row is in an earlier row of tiles than its last
--- chroma row: that row is at least half as far down as the luma row.
+-- A surface on which the last Cr byte of a block is its highest byte, in every picture of so many rows of macroblocks. Chroma begins
+-- behind all luma rows, and so far down that a block's last luma row is in an earlier row of tiles than its last chroma row, which is
+-- half as far below the first chroma row.
 unfoldable pub chromaHighest : Surface → ℕ → Bool
-chromaHighest s rows = (leb 64 (s .«chroma_row») && leb (16 * rows) (s .«chroma_row»)) && leb 32 (s .pitch)
+chromaHighest s rows = (leb chromaFrom (s .«chroma_row») && leb (16 * rows) (s .«chroma_row»)) && leb 32 (s .pitch)
