@@ -163,4 +163,15 @@ mod tests {
             assert!(MARKS[3..].iter().all(|mark| of(buffer, mark) >= 150), "{seen:?}");
         }
     }
+
+    /// About half of the pictures have chroma from row 64 on, and no luma byte is the highest there.
+    #[test]
+    fn chroma_from_row_64_on() {
+        let mut r = Random::new(48);
+        let far = |draft: &Draft| draft.frame.chroma_row >= 64;
+        let drafts: Vec<Draft> = (0..10_000).map(|_| Draft::new(&mut r)).filter(far).collect();
+        assert!((4_000..6_000).contains(&drafts.len()), "{}", drafts.len());
+        let seen = count(drafts.iter().map(|draft| draft.batch.words()));
+        assert!((0..4).all(|buffer| !seen.contains_key(&(buffer, MARKS[0]))), "{seen:?}");
+    }
 }
