@@ -1,7 +1,8 @@
 -- The test by lines is the range test and the inside test, and where chroma is highest the reach of a block that lies inside is its extent.
 use mathlib.Core.Path.{_≡_, refl, sym, ap, ap₂, subst, _∙_}
-use mathlib.Core.Bool.{Bool, true, false, cond, _&&_}
-use Prim.Native.Nat.{ℕ, _+_, _*_, _-_, _^_, _≤_, _<_}
+use mathlib.Core.Bool.{Bool, true, false, cond, _&&_, _||_}
+use mathlib.Core.Logic.{_⊎_, inl, inr}
+use Prim.Native.Nat.{ℕ, _+_, _*_, _-_, _/_, _^_, _≤_, _<_}
 use native.Mathlib.Omega.{arith}
 use borrow.Author.Tests.{leb-true, le-leb, ltb-true, lt-ltb}
 use lib.Dec.{leb, ltb}
@@ -78,7 +79,7 @@ lines-exact g at cx cy w hx hy =
     ∙ swapped (inRange 16 cx (v .x)) (inside 16 (at .column) (g .columns) (v .x)) (inRange 16 cy (v .y)) (inside 16 (at .row) (g .rows) (v .y))
 
 -- ---- where chroma is highest
--- A block's last luma sample in one direction: it lies in the picture, and hardly beyond twice the last chroma sample.
+-- A block's last luma sample in one direction: it lies in the picture, and at most two beyond twice the last chroma sample.
 pub record LastSamples (place n : ℕ) (v : ℤ) : Type 0 where
   pub in-picture : lastOf 16 place v < 16 * n
   pub by-chroma : lastOf 16 place v ≤ 2 * lastOf 8 place (halved v) + 2
@@ -94,6 +95,23 @@ last-samples place n v hv t =
     subst (LastSamples place n) back
     (record { in-picture = omega (arith, luma, means .1, u); by-chroma = omega (arith, luma, chroma, u) })
 
+-- A block's last luma row is in an earlier row of tiles than its last chroma row, in either case of the definition.
+module _ (s : Surface) (rows luma chroma : ℕ) (inside : luma < 16 * rows) (half : luma ≤ 2 * chroma + 2) where
+  either : (p q : Bool) → (p || q) ≡ true → (p ≡ true) ⊎ (q ≡ true)
+  either true q t = inl refl
+  either false q t = inr t
+
+  earlier-row : (leb (16 * rows) (s .«chroma_row» / 32 * 32) || (leb chromaFrom (s .«chroma_row») && leb (16 * rows) (s .«chroma_row»))) ≡ true
+      → luma < (s .«chroma_row» + chroma) / 32 * 32
+  earlier-row t = by (either (leb (16 * rows) (s .«chroma_row» / 32 * 32)) (leb chromaFrom (s .«chroma_row») && leb (16 * rows) (s .«chroma_row»)) t)
+    where
+      by : (leb (16 * rows) (s .«chroma_row» / 32 * 32) ≡ true) ⊎ ((leb chromaFrom (s .«chroma_row») && leb (16 * rows) (s .«chroma_row»)) ≡ true)
+          → luma < (s .«chroma_row» + chroma) / 32 * 32
+      by (inl a) = omega (arith, leb-true (16 * rows) (s .«chroma_row» / 32 * 32) a)
+      by (inr f) =
+          let far = both (leb chromaFrom (s .«chroma_row»)) (leb (16 * rows) (s .«chroma_row»)) f in
+          omega (arith, leb-true chromaFrom (s .«chroma_row») (far .0), leb-true (16 * rows) (s .«chroma_row») (far .1))
+
 -- There the last Cr byte is the highest byte of every block that lies inside.
 pub chroma-is-highest : (s : Surface) (g : Grid) (at : Position) (w : ℕ)
     → chromaHighest s (g .rows) ≡ true
@@ -106,14 +124,12 @@ chroma-is-highest s g at w h t =
     let two = tests g at v t in
     let x = last-samples (at .column) (g .columns) (v .x) (f .0 .sfits) (two .0) in
     let y = last-samples (at .row) (g .rows) (v .y) (f .1 .sfits) (two .1) in
-    let wide = both (leb chromaFrom (s .«chroma_row») && leb (16 * g .rows) (s .«chroma_row»)) (leb 32 (s .pitch)) h in
-    let low = both (leb chromaFrom (s .«chroma_row»)) (leb (16 * g .rows) (s .«chroma_row»)) (wide .0) in
-    let down = leb-true chromaFrom (s .«chroma_row») (low .0) in
-    let behind = leb-true (16 * g .rows) (s .«chroma_row») (low .1) in
+    let lower = both _ (leb 32 (s .pitch)) h in
+    let row = earlier-row s (g .rows) (lastOf 16 (at .row) (v .y)) (lastOf 8 (at .row) (halved (v .y))) (y .in-picture) (y .by-chroma) (lower .0) in
     join-larger (planeExtent s at v luma) (planeExtent s at v cr)
     (omega (
       arith,
-      address-tiles (s .pitch) (lastOf 16 (at .column) (v .x)) (lastOf 16 (at .row) (v .y)) (2 * lastOf 8 (at .column) (halved (v .x)) + 1) (s .«chroma_row» + lastOf 8 (at .row) (halved (v .y))) (leb-true 32 (s .pitch) (wide .1)) (omega (arith, x .by-chroma)) (omega (arith, down, behind, y .in-picture, y .by-chroma)),
+      address-tiles (s .pitch) (lastOf 16 (at .column) (v .x)) (lastOf 16 (at .row) (v .y)) (2 * lastOf 8 (at .column) (halved (v .x)) + 1) (s .«chroma_row» + lastOf 8 (at .row) (halved (v .y))) (leb-true 32 (s .pitch) (lower .1)) (omega (arith, x .by-chroma)) row,
     ))
 
 -- ---- reach

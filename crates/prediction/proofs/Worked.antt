@@ -1,7 +1,7 @@
 -- What documents 01 and 02 work out by number, computed from the definitions.
 use mathlib.Core.Path.{_≡_, refl}
 use mathlib.Core.Bool.{true, false}
-use mathlib.Core.List.{[], _∷_, map}
+use mathlib.Core.List.{[], _∷_, _++_, map}
 use Prim.Native.Nat.{ℕ}
 use lib.IntN.{ℤ, pos, negℤ}
 use Rattle.prediction.specs.Vectors.{vectorOf, wordOf}
@@ -103,8 +103,13 @@ reaches : map reach (0x00000000 ∷ 0x00000001 ∷ 0x00000002 ∷ 0x00000020 ∷
 unfolding reachOf vectorOf emptyExtent address
 reaches = refl
 
--- so chroma is not always highest there; it is from 64 rows of luma on, where no luma row is a chroma row
-highest : chromaHighest (surface 128 16) 1 ∷ chromaHighest (surface 128 48) 3 ∷ chromaHighest (surface 128 64) 4 ∷ chromaHighest (surface 128 64) 5 ∷ chromaHighest (surface 16 64) 4 ∷ []
-    ≡ false ∷ false ∷ true ∷ false ∷ false ∷ []
+-- so chroma is not always highest there; it is where all luma is in earlier rows of tiles, or chroma begins at row 64 or below
+highest : map (λ (c : ℕ). chromaHighest (surface 128 c) 1) (16 ∷ 31 ∷ 32 ∷ []) ++ map (λ (c : ℕ). chromaHighest (surface 128 c) 3) (48 ∷ 63 ∷ 64 ∷ [])
+    ≡ false ∷ false ∷ true ∷ false ∷ false ∷ true ∷ []
 unfolding chromaHighest
 highest = refl
+
+-- and not where luma rows are below chroma rows, or a row of tiles is shorter than two strips
+not-highest : chromaHighest (surface 128 80) 6 ∷ chromaHighest (surface 16 64) 4 ∷ [] ≡ false ∷ false ∷ []
+unfolding chromaHighest
+not-highest = refl

@@ -1,8 +1,8 @@
 -- Vectors judged by numbers that are made once for a line of blocks, a row or a column of macroblocks alike. They say nothing
 -- new: the laws of proofs/LineLaws.antt give back the range of the f code, the inside test and the block's extent, the last where
 -- chroma is highest.
-use Prim.Native.Nat.{ℕ, _+_, _-_, _*_, _^_, min}
-use mathlib.Core.Bool.{Bool, cond, _&&_}
+use Prim.Native.Nat.{ℕ, _+_, _-_, _*_, _/_, _^_, min}
+use mathlib.Core.Bool.{Bool, cond, _&&_, _||_}
 use lib.IntN.{ℤ, pos, subℕ, _+ℤ_}
 use lib.Dec.{leb}
 use lib.Signed.{leZ}
@@ -35,18 +35,20 @@ inLine l place v =
 unfoldable pub vectorInLines : Line → Line → ℕ → ℕ → ℕ → Bool
 vectorInLines x y column row w = inLine x column (vectorOf w .x) && inLine y row (vectorOf w .y)
 
--- The least first chroma row of `chromaHighest`.
-abbrev pub chromaFrom : ℕ
-chromaFrom = 64
-
 -- What the block touches that the word's vector displaces, up to its last Cr sample, where it starts in the picture; nothing where
 -- it starts before it.
 unfoldable pub reachOf : Surface → Position → ℕ → Extent
 reachOf s at w =
     cond (leZ (pos 0) (firstOf 16 (at .column) (vectorOf w .x)) && leZ (pos 0) (firstOf 16 (at .row) (vectorOf w .y))) (planeExtent s at (vectorOf w) cr) emptyExtent
 
--- A surface on which the last Cr byte of a block is its highest byte, in every picture of so many rows of macroblocks. Chroma begins
--- behind all luma rows, and so far down that a block's last luma row is in an earlier row of tiles than its last chroma row, which is
--- half as far below the first chroma row.
+-- Far enough down for chroma to begin, wherever tiles do.
+abbrev pub chromaFrom : ℕ
+chromaFrom = 64
+
+-- A surface on which the last Cr byte of a block is its highest byte, in every picture of so many rows of macroblocks: a block's last
+-- luma row is in an earlier row of tiles than its last chroma row. So it is if all luma rows are in earlier rows of tiles than the
+-- first chroma row; and also if chroma begins just behind luma but far enough down, since a block's last chroma row is half as far
+-- below the first chroma row as its last luma row is below the first luma row.
 unfoldable pub chromaHighest : Surface → ℕ → Bool
-chromaHighest s rows = (leb chromaFrom (s .«chroma_row») && leb (16 * rows) (s .«chroma_row»)) && leb 32 (s .pitch)
+chromaHighest s rows =
+    (leb (16 * rows) (s .«chroma_row» / 32 * 32) || (leb chromaFrom (s .«chroma_row») && leb (16 * rows) (s .«chroma_row»))) && leb 32 (s .pitch)

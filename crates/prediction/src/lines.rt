@@ -133,5 +133,7 @@ pub fn chroma_highest(surface: Surface, rows: u16) -> bool
 {
     let chroma_row = surface.chroma_row as u32;
     let luma_rows = 16 * (rows as u32);
-    (64 <= chroma_row) & (luma_rows <= chroma_row) & (32 <= surface.pitch)
+    let apart = luma_rows <= chroma_row / 32 * 32;
+    let far = (64 <= chroma_row) & (luma_rows <= chroma_row);
+    (apart | far) & (32 <= surface.pitch)
 }

@@ -108,7 +108,7 @@ fn take_row(progress: Progress, words: &[u32]) -> Taken
 }
 
 // Takes MACROBLOCK commands that stand one behind the other, up to the end of the row or of the group, as far as they keep their
-// rules. How many are taken is left to this function: none may be.
+// rules. How many are taken is left to this function: none may be, and none are where a block's highest byte can be a luma byte.
 pub fn judge_row(progress: Progress, words: &[u32]) -> Taken
     ensures { λ r. ⌜ TakenFrom progress (now (words .entry)) r ⌝ }
 {

@@ -7,6 +7,9 @@ use crate::timing::{measure, Caches, Sample};
 /// Columns and rows, in macroblocks: 720 by 576, 1920 by 1088 and 4096 by 2800 samples.
 const SIZES: [(u32, u32); 3] = [(45, 36), (120, 68), (256, 175)];
 
+/// Chroma begins in row 32, with a row of tiles, and in row 48, within one: there a luma byte can be the highest.
+const LOW_SIZES: [(u32, u32); 2] = [(120, 2), (120, 3)];
+
 const ROUNDS: u32 = 100;
 const CLEARED_ROUNDS: u32 = 10;
 
@@ -21,11 +24,17 @@ const RATIOS: [(&str, usize, usize); 7] = [
     ("check/sum", CHECK, SUM),
 ];
 
-pub fn print() {
-    let sizes = (1..4).flat_map(|coding| SIZES.map(|(columns, rows)| Picture { coding, columns, rows }));
-    let pictures: Vec<Picture> = sizes.collect();
+/// Pictures of each type in these sizes, and their times.
+fn measured<const N: usize>(sizes: [(u32, u32); N]) -> (Vec<Picture>, Vec<Sample>) {
+    let all = (1..4).flat_map(|coding| sizes.map(|(columns, rows)| Picture { coding, columns, rows }));
+    let pictures: Vec<Picture> = all.collect();
     let mut samples: Vec<Sample> = pictures.iter().map(|picture| Sample::new(picture.several(), &CONTENDERS)).collect();
     measure(&mut samples, ROUNDS, || {});
+    (pictures, samples)
+}
+
+pub fn print() {
+    let (pictures, samples) = measured(SIZES);
     println!("Pictures: millions of words a second, and ratios of times; the least of {} runs of each, in turn.", 2 * ROUNDS);
     println!("Buffers not cleared first: the words and the log are in memory and in what cache holds them from the run before.");
     table(&pictures, &samples);
@@ -38,6 +47,11 @@ pub fn print() {
     measure(&mut samples, CLEARED_ROUNDS, || caches.clear());
     println!();
     println!("The same with the caches cleared before each run, the least of {} runs.", 2 * CLEARED_ROUNDS);
+    table(&pictures, &samples);
+
+    let (pictures, samples) = measured(LOW_SIZES);
+    println!();
+    println!("Low pictures, as in the first table. With three rows of macroblocks a luma byte can be the highest.");
     table(&pictures, &samples);
 }
 

@@ -10,9 +10,12 @@ cast-chroma-row c = search needs
 mul-luma-rows : tie.Need-mul-luma-rows
 mul-luma-rows c = search needs
 
+mul-apart : tie.Need-mul-apart
+mul-apart c = search needs
+
 returns : tie.Need-returns
 unfolding chromaHighest
 returns c = refl
 
 pub chroma-highest-spec : {M : Type 1} → statement M
-chroma-highest-spec = tie.close (tie.spec cast-chroma-row mul-luma-rows returns)
+chroma-highest-spec = tie.close (tie.spec cast-chroma-row mul-luma-rows mul-apart returns)
