@@ -1,6 +1,6 @@
 -- Differences of two naturals, as integers.
 use mathlib.Core.Path.{_≡_, refl, sym, ap, ap₂, subst, _∙_}
-use mathlib.Core.Bool.{Bool, true, false, cond, not, _&&_}
+use mathlib.Core.Bool.{Bool, true, false, cond, not, _&&_, _||_}
 use mathlib.Core.Logic.{_⊎_, inl, inr}
 use Prim.Native.Nat.{ℕ, zero, suc, _+_, _*_, _-_, _≤_, _<_}
 use native.Mathlib.Nat.{add-comm, mul-le-mul}
@@ -115,10 +115,14 @@ module _ (a b c d : ℕ) where
   pub lt-holds : a + d < c + b → subℕ a b <ℤ subℕ c d
   lt-holds h = record { lt = subst T (sym (lt-sums a b c d)) (lt→ltb (a + d) (c + b) h) }
 
--- two tests that both hold
+-- two tests that both hold, and two of which one does
 pub both : (p q : Bool) → (p && q) ≡ true → (p ≡ true) × (q ≡ true)
 both true q t = (refl, t)
 both false q t = let z : _≡_ {A = ℕ} 0 1 = cc in absurd (omega arith)
+
+pub either : (p q : Bool) → (p || q) ≡ true → (p ≡ true) ⊎ (q ≡ true)
+either true q t = inl refl
+either false q t = inr t
 
 pub product-le : {a b : ℕ} (m n : ℕ) → a ≤ m → b ≤ n → a * b ≤ m * n
 product-le m n ha hb = mul-le-mul ha hb

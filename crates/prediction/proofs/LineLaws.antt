@@ -19,7 +19,7 @@ use Rattle.prediction.specs.declared.Surface.{Surface}
 use Rattle.prediction.specs.declared.Grid.{Grid}
 use Rattle.prediction.specs.declared.Position.{Position}
 use Rattle.prediction.specs.declared.Block.the-variants.{Outside, Inside}
-use Rattle.prediction.proofs.Integers.{both}
+use Rattle.prediction.proofs.Integers.{both, either}
 use Rattle.prediction.proofs.Components.{biasOf, bias-lt, bias-back, inside-means, inside-holds}
 use Rattle.prediction.proofs.CodeRange.{code-test}
 use Rattle.prediction.proofs.TwosComplement.{vector-fits}
@@ -97,10 +97,6 @@ last-samples place n v hv t =
 
 -- A block's last luma row is in an earlier row of tiles than its last chroma row, in either case of the definition.
 module _ (s : Surface) (rows luma chroma : ℕ) (inside : luma < 16 * rows) (half : luma ≤ 2 * chroma + 2) where
-  either : (p q : Bool) → (p || q) ≡ true → (p ≡ true) ⊎ (q ≡ true)
-  either true q t = inl refl
-  either false q t = inr t
-
   earlier-row : (leb (16 * rows) (s .«chroma_row» / 32 * 32) || (leb chromaFrom (s .«chroma_row») && leb (16 * rows) (s .«chroma_row»))) ≡ true
       → luma < (s .«chroma_row» + chroma) / 32 * 32
   earlier-row t = by (either (leb (16 * rows) (s .«chroma_row» / 32 * 32)) (leb chromaFrom (s .«chroma_row») && leb (16 * rows) (s .«chroma_row»)) t)
