@@ -75,7 +75,8 @@ moved code v =
     ++ (0x05000000 ∷ [])
 
 -- P8 to P13 do not name the lengths of buffers 0 and 1. There the two macroblocks touch their own samples, of which Cr (15, 7) is
--- the highest byte: row 16 + 7, column 2·15 + 1, at 512 + 23·16 + 15 = 895. P12 and P13 name no place: it is word 5 of the first macroblock, word 32.
+-- the highest byte: row 16 + 7, column 2·15 + 1, at 512 + 23·16 + 15 = 895. P12 and P13 name no place: it is word 5 of the first
+-- macroblock, word 32.
 cases : List Case
 cases =
     -- P1: "P1 becomes 384 384 0 0" (document 02). "Record: 8 zero bytes, 3F 00 00 01 0F, 11 zero bytes"

@@ -3,32 +3,28 @@
 use mathlib.Core.Path.{_≡_, ap, _∙_}
 use mathlib.Core.Logic.{_⊎_, inl, inr}
 use Prim.Native.Nat.{ℕ, _+_, _*_, _/_, _%_, _≤_, _<_}
-use native.Mathlib.Nat.{eq-or-lt-of-le, mul-assoc, mul-comm, div-add-mod, mod-lt}
+use native.Mathlib.Nat.{mul-assoc, mul-comm, div-add-mod, mod-lt}
 use native.Mathlib.Omega.{arith}
 use Rattle.prediction.specs.Addresses.{address}
 use Rattle.prediction.proofs.Integers.{split}
 use Rattle.prediction.proofs.AddressGrows.{address-parts, tile-row}
 
+-- A place in an earlier row of tiles has the lower byte, whatever the columns.
+earlier : (pitch b r b′ r′ : ℕ) → pitch % 128 ≡ 0 → b < pitch → r / 32 < r′ / 32 → address pitch b r < address pitch b′ r′
+earlier pitch b r b′ r′ tiled hb l = omega (arith, address-parts pitch b r, address-parts pitch b′ r′, tile-row pitch r r′ l)
+
 -- No two places of a surface have one byte.
 pub address-once : (pitch b r b′ r′ : ℕ) → pitch % 128 ≡ 0 → b < pitch → b′ < pitch → address pitch b r ≡ address pitch b′ r′ → (b ≡ b′) × (r ≡ r′)
-address-once pitch b r b′ r′ tiled hb hb′ same = by (split (r / 32) (r′ / 32))
+address-once pitch b r b′ r′ tiled hb hb′ same = by (split (r / 32) (r′ / 32)) (split (r′ / 32) (r / 32))
   where
-    equal : r / 32 ≡ r′ / 32 → (b ≡ b′) × (r ≡ r′)
-    equal e =
-        let strips = ap (λ (q : ℕ). q * 32 * pitch) e in
-        let inner : b / 16 * 512 + r % 32 * 16 + b % 16 ≡ b′ / 16 * 512 + r′ % 32 * 16 + b′ % 16 = omega (arith, same, strips, address-parts pitch b r, address-parts pitch b′ r′) in
-        (omega (arith, inner), omega (arith, inner, e))
-
-    further : r′ / 32 ≤ r / 32 → (b ≡ b′) × (r ≡ r′)
-    further h = last (eq-or-lt-of-le h)
-      where
-        last : (r′ / 32 ≡ r / 32) ⊎ (r′ / 32 < r / 32) → (b ≡ b′) × (r ≡ r′)
-        last (inl e) = equal (omega (arith, e))
-        last (inr l) = absurd (omega (arith, same, address-parts pitch b r, address-parts pitch b′ r′, tile-row pitch r′ r l))
-
-    by : (r / 32 < r′ / 32) ⊎ (r′ / 32 ≤ r / 32) → (b ≡ b′) × (r ≡ r′)
-    by (inl l) = absurd (omega (arith, same, address-parts pitch b r, address-parts pitch b′ r′, tile-row pitch r r′ l))
-    by (inr h) = further h
+    by : (r / 32 < r′ / 32) ⊎ (r′ / 32 ≤ r / 32) → (r′ / 32 < r / 32) ⊎ (r / 32 ≤ r′ / 32) → (b ≡ b′) × (r ≡ r′)
+    by (inl l) _ = absurd (omega (arith, same, earlier pitch b r b′ r′ tiled hb l))
+    by (inr _) (inl l) = absurd (omega (arith, same, earlier pitch b′ r′ b r tiled hb′ l))
+    by (inr h) (inr k) =
+        let rows : r / 32 ≡ r′ / 32 = omega (arith, h, k) in
+        let tiles = ap (λ (q : ℕ). q * 32 * pitch) rows in
+        let inner : b / 16 * 512 + r % 32 * 16 + b % 16 ≡ b′ / 16 * 512 + r′ % 32 * 16 + b′ % 16 = omega (arith, same, tiles, address-parts pitch b r, address-parts pitch b′ r′) in
+        (omega (arith, inner), omega (arith, inner, rows))
 
 -- Every number is the byte of some place.
 pub address-every : (pitch n : ℕ) → 0 < pitch → pitch % 128 ≡ 0 → (b : ℕ) × (r : ℕ) × (b < pitch) × (address pitch b r ≡ n)

@@ -80,9 +80,9 @@ lines-exact g at cx cy w hx hy =
 
 -- ---- where chroma is highest
 -- A block's last luma sample in one direction: it lies in the picture, and at most two beyond twice the last chroma sample.
-pub record LastSamples (place n : ℕ) (v : ℤ) : Type 0 where
-  pub in-picture : lastOf 16 place v < 16 * n
-  pub by-chroma : lastOf 16 place v ≤ 2 * lastOf 8 place (halved v) + 2
+record LastSamples (place n : ℕ) (v : ℤ) : Type 0 where
+  in-picture : lastOf 16 place v < 16 * n
+  by-chroma : lastOf 16 place v ≤ 2 * lastOf 8 place (halved v) + 2
 
 last-samples : (place n : ℕ) (v : ℤ) → mag v < 32768 → inside 16 place n v ≡ true → LastSamples place n v
 last-samples place n v hv t =

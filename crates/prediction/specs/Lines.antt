@@ -41,7 +41,7 @@ unfoldable pub reachOf : Surface → Position → ℕ → Extent
 reachOf s at w =
     cond (leZ (pos 0) (firstOf 16 (at .column) (vectorOf w .x)) && leZ (pos 0) (firstOf 16 (at .row) (vectorOf w .y))) (planeExtent s at (vectorOf w) cr) emptyExtent
 
--- Far enough down for chroma to begin, wherever tiles do.
+-- The first chroma row from which on it does not matter in which row of its tiles chroma begins.
 abbrev pub chromaFrom : ℕ
 chromaFrom = 64
 

@@ -4,7 +4,8 @@ use crate::ffi;
 use crate::reason::{Reason, Refusal};
 use core::fmt;
 
-/// Lengths in bytes of the four picture buffers: those that a batch is checked beside, or those that it needs.
+/// Lengths in bytes of the four picture buffers: those that a batch is checked beside, or those that it needs. The buffers are
+/// Y-tiled, and bytes are counted as they stand in memory.
 ///
 /// ```
 /// use hromulice::Lengths;
