@@ -6,6 +6,7 @@
   code. Where it names the law that refuses it, that law is among what failed.
 - Every name that docs/CLAIMS.md cites stands in the file that it cites, and every edit that it cites is there.
 - No law above `prediction` unfolds one of its definitions, worked numbers apart.
+- No function between a vector word and its components divides, takes a remainder or multiplies.
 - Nothing names a path of one machine.
 """
 import pathlib
@@ -128,6 +129,31 @@ def check_unfolding():
     return count
 
 
+# Between a vector word and its two components: every function of a file, or those that are named.
+HALVES = {
+    'crates/fields/src/word.rt': None,
+    'crates/prediction/src/vectors.rt': None,
+    'crates/prediction/src/spans.rt': {'biased'},
+    'crates/prediction/src/lines.rt': {'x_of', 'y_of'},
+}
+
+
+def check_halves():
+    """Document 02, R-2: shifts and masks only. The compiler turns a division by a power of two into a shift, so that only the text shows it."""
+    count = 0
+    for path, wanted in HALVES.items():
+        found = set()
+        for name, body in re.findall(r'^(?:pub |pub\(crate\) )?fn (\w+)\(.*?^\{\n(.*?)^\}', (root / path).read_text(), re.M | re.S):
+            if wanted is None or name in wanted:
+                found.add(name)
+                if sign := re.search(r'[*/%]', re.sub(r'//.*', '', body)):
+                    faults.append(f'{path}: {name} has a {sign[0]}')
+        if not found or (wanted or set()) - found:
+            faults.append(f'{path}: a function between a vector word and its components was not found')
+        count += len(found)
+    return count
+
+
 def check_paths():
     files = subprocess.run(['git', 'ls-files', '-z'], cwd=root, check=True, capture_output=True).stdout.decode().split('\0')
     machine = re.compile(r'(^|[^\w.-])/(' + '|'.join(['work', 'tmp', 'root', 'home', 'opt']) + r')/\w')
@@ -142,8 +168,8 @@ def check_paths():
     return len(files) - 1
 
 
-functions, refusals, claims, laws, files = check_contracts(), check_refusals(), check_claims(), check_unfolding(), check_paths()
-if min(functions, refusals, claims, laws, files) == 0:
+functions, refusals, claims, laws, halves, files = check_contracts(), check_refusals(), check_claims(), check_unfolding(), check_halves(), check_paths()
+if min(functions, refusals, claims, laws, halves, files) == 0:
     faults.append('nothing was checked: no public function, no refusal, no claim, no law or no file was found')
 for fault in faults:
     print(f'repository: {fault}')

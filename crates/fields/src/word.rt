@@ -80,13 +80,13 @@ pub fn with_bits(word: u32, hi: u8, lo: u8, value: u32) -> u32
     below | (field << lo) | ((word >> end) << end)
 }
 
-// The halves of a word, by division.
+// The halves of a word.
 pub fn halves_of(word: u32) -> Halves
     ensures { λ r. ⌜ r ≡ halvesOf word ⌝ }
 {
     Halves {
-        low: (word % 65536) as u16,
-        high: (word / 65536) as u16,
+        low: (word & 0xffff) as u16,
+        high: (word >> 16) as u16,
     }
 }
 
