@@ -24,6 +24,10 @@ cut = refl
 low-half : halvesOf 0x00010002 ≡ halves 2 1
 low-half = refl
 
+-- both halves have their sign bit
+sign-bits : halvesOf 0x80018002 ≡ halves 0x8002 0x8001
+sign-bits = refl
+
 lowest-first : bytesOf 4 0x12345678 ≡ 0x78 ∷ 0x56 ∷ 0x34 ∷ 0x12 ∷ []
 lowest-first = refl
 

@@ -1,4 +1,5 @@
 -- A mask of 16 ones keeps the remainder by 65536 (`and-mask`), and a shift by 16 the quotient: these are bits 15:0 and 31:16.
+-- Each half is given what is known of the mask, so that halves that are exchanged fail at the answer alone.
 use mathlib.Core.Path.{ap₂}
 use native.Mathlib.Omega.{arith}
 use lib.Bits.{and-mask, mask-lt}
