@@ -1,31 +1,7 @@
 // Answers of a check: accepted, or refused with a number and a place.
-ghost use mathlib.Core.Path.{_≡_};
-ghost use Rattle.answers.specs.Answers.{earlier};
 
 // Accepted, or refused with document 01's number and place.
 pub enum Answer {
     Accepted,
     Refused(u8, u64),
-}
-
-// Of two answers the one that is given: the lower place, and of two at one place the one with the smaller number.
-pub fn earlier(a: Answer, b: Answer) -> Answer
-    ensures { λ r. ⌜ r ≡ earlier a b ⌝ }
-{
-    let Answer::Refused(number, place) = a else {
-        return b;
-    };
-    let Answer::Refused(n, p) = b else {
-        return a;
-    };
-    if p < place {
-        return b;
-    }
-    if place < p {
-        return a;
-    }
-    if n < number {
-        return b;
-    }
-    a
 }

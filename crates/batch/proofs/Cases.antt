@@ -9,18 +9,18 @@ use Rattle.prediction.specs.Addresses.{address}
 use Rattle.prediction.specs.Extents.{emptyExtent, joined}
 use Rattle.prediction.specs.Blocks.{blockAt}
 use Rattle.headers.specs.Headers.{table, lookUp, headerOf}
-use Rattle.command.specs.Cases.{motionOf, caseOf, vectorWords}
-use Rattle.command.specs.Macroblocks.{macroblockOf}
-use Rattle.command.specs.Rules.{keptBy, fieldRules, vectorRules, commandRules}
+use Rattle.macroblock.specs.Cases.{motionOf, caseOf, vectorWords}
+use Rattle.macroblock.specs.Macroblocks.{macroblockOf}
+use Rattle.macroblock.specs.Rules.{keptBy, fieldRules, vectorRules, commandRules}
 use Rattle.records.specs.Records.{recordOf}
 use Rattle.picture.specs.Surfaces.{surfaceOf, surfaceTable, surfaceRules}
 use Rattle.picture.specs.Pictures.{pictureOf, pictureTable, pictureRules}
 use Rattle.progress.specs.Progress.{fresh}
-use Rattle.macroblocks.specs.Blocks.{forwardOf, backwardOf, predicted, blocksOf}
-use Rattle.macroblocks.specs.Placing.{placedBy, placedRules, macroblockRules}
-use Rattle.macroblocks.specs.Progressing.{positionAfter, stageAfter, extentsAfter, progressAfter, macroblockNext}
-use Rattle.judging.specs.Sequence.{surfaceNext, pictureNext, groupNext, endNext}
-use Rattle.judging.specs.Judging.{rulesOf, nextOf, judge}
+use Rattle.placement.specs.Blocks.{forwardOf, backwardOf, predicted, blocksOf}
+use Rattle.placement.specs.Placing.{placedBy, placedRules, macroblockRules}
+use Rattle.placement.specs.Progressing.{positionAfter, stageAfter, extentsAfter, progressAfter, macroblockNext}
+use Rattle.sequence.specs.Sequence.{surfaceNext, pictureNext, groupNext, endNext}
+use Rattle.sequence.specs.Judging.{rulesOf, nextOf, judge}
 use Rattle.batch.specs.Walk.{after, step}
 use Rattle.batch.specs.Reports.{numberOf, placeOf, reportedOf, bufferRules, measured, verdictOf, report}
 use Rattle.batch.specs.declared.Lengths.{Lengths}

@@ -11,7 +11,7 @@ use Rattle.answers.specs.Answers.{judged}
 use Rattle.answers.specs.declared.Answer.the-variants.{Accepted}
 use Rattle.answers.proofs.Judging.{no}
 use Rattle.headers.specs.Headers.{begins}
-use Rattle.command.specs.Macroblocks.{macroblockOf}
+use Rattle.macroblock.specs.Macroblocks.{macroblockOf}
 use Rattle.headers.specs.declared.Header.{Header}
 use Rattle.headers.specs.declared.Opcode.{Opcode}
 use Rattle.headers.specs.declared.Opcode.the-variants.{Surface, Picture, Macroblock}
@@ -20,10 +20,10 @@ use Rattle.picture.specs.Surfaces.{surfaceOf}
 use Rattle.progress.specs.Progress.{fresh}
 use Rattle.progress.specs.declared.Progress.{Progress}
 use Rattle.progress.specs.declared.Verdict.the-variants.{Next}
-use Rattle.macroblocks.proofs.PositionLaws.{own-position, in-group, position-of}
-use Rattle.judging.specs.Judging.{rulesOf, nextOf, judge}
-use Rattle.judging.proofs.JudgingLaws.{goes-on}
-use Rattle.judging.proofs.SequenceLaws.{macroblock-rules, all-come, said-next, surface-once, picture-once, Sound, fresh-sound, countOf, sound-next}
+use Rattle.placement.proofs.PositionLaws.{own-position, in-group, position-of}
+use Rattle.sequence.specs.Judging.{rulesOf, nextOf, judge}
+use Rattle.sequence.proofs.JudgingLaws.{goes-on}
+use Rattle.sequence.proofs.SequenceLaws.{macroblock-rules, all-come, said-next, surface-once, picture-once, Sound, fresh-sound, countOf, sound-next}
 use Rattle.batch.specs.Commands.{Command, commandsOf, macroblocksIn, lastSaid, frameOf, pictureIn, InOrder, howMany}
 use Rattle.batch.specs.Walk.{going, step, start}
 use Rattle.batch.proofs.Runs.{Run, batch-runs}

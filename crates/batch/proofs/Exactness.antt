@@ -14,18 +14,18 @@ use Rattle.prediction.specs.declared.Surface.{Surface}
 use Rattle.prediction.proofs.ExtentLaws.{empty-exact, exact-same}
 use Rattle.headers.specs.Headers.{begins}
 use Rattle.headers.specs.declared.Opcode.the-variants.{Macroblock}
-use Rattle.command.specs.Macroblocks.{macroblockOf}
+use Rattle.macroblock.specs.Macroblocks.{macroblockOf}
 use Rattle.progress.specs.Buffers.{Buffer, source, reconstructed, forward, backward, extentOf}
 use Rattle.progress.specs.Progress.{fresh}
 use Rattle.progress.specs.declared.Progress.{Progress}
 use Rattle.progress.specs.declared.Verdict.the-variants.{Next}
-use Rattle.macroblocks.specs.Progressing.{macroblockNext}
-use Rattle.macroblocks.specs.Touching.{referenceIn, TouchedBy}
-use Rattle.macroblocks.proofs.PositionLaws.{in-group, position-of}
-use Rattle.macroblocks.proofs.TouchLaws.{next-exact}
-use Rattle.judging.specs.Judging.{judge}
-use Rattle.judging.proofs.JudgingLaws.{goes-on}
-use Rattle.judging.proofs.SequenceLaws.{macroblock-rules, macroblock-next, others-touch-nothing, Sound, fresh-sound, countOf}
+use Rattle.placement.specs.Progressing.{macroblockNext}
+use Rattle.placement.specs.Touching.{referenceIn, TouchedBy}
+use Rattle.placement.proofs.PositionLaws.{in-group, position-of}
+use Rattle.placement.proofs.TouchLaws.{next-exact}
+use Rattle.sequence.specs.Judging.{judge}
+use Rattle.sequence.proofs.JudgingLaws.{goes-on}
+use Rattle.sequence.proofs.SequenceLaws.{macroblock-rules, macroblock-next, others-touch-nothing, Sound, fresh-sound, countOf}
 use Rattle.batch.specs.Commands.{Command, commandsOf, macroblocksIn, frameOf, pictureIn}
 use Rattle.batch.specs.Touched.{positionIn, Touched}
 use Rattle.batch.specs.Walk.{going, step, start}

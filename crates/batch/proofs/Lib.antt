@@ -11,5 +11,3 @@ mod Cases
 mod Exactness
 mod Gathering
 mod Measuring
-mod RowTurn
-mod Turns

@@ -14,8 +14,8 @@ use Rattle.progress.specs.declared.Extents.{Extents}
 use Rattle.progress.specs.declared.Progress.{Progress}
 use Rattle.progress.specs.declared.Verdict.{Verdict}
 use Rattle.progress.specs.declared.Verdict.the-variants.{Next, Stop}
-use Rattle.judging.specs.Judging.{judge}
-use Rattle.judging.proofs.JudgingLaws.{stops-within}
+use Rattle.sequence.specs.Judging.{judge}
+use Rattle.sequence.proofs.JudgingLaws.{stops-within}
 use Rattle.batch.specs.Reports.{numberOf, measured, ending, concluding, verdictOf, report}
 use Rattle.batch.specs.Walk.{Walk, going, stopped, limit, after, step, start}
 use Rattle.batch.specs.declared.Lengths.{Lengths}

@@ -14,12 +14,12 @@ use Rattle.headers.specs.Words.{wordAt}
 use Rattle.headers.specs.declared.Header.{Header}
 use Rattle.headers.specs.declared.Opcode.the-variants.{Macroblock}
 use Rattle.headers.proofs.HeaderLaws.{macroblock-word, macroblock-words}
-use Rattle.command.specs.Rules.{commandRules}
+use Rattle.macroblock.specs.Rules.{commandRules}
 use Rattle.progress.specs.Progress.{fresh}
 use Rattle.progress.specs.declared.Progress.{Progress}
-use Rattle.macroblocks.proofs.MacroblockLaws.{alone-kept}
-use Rattle.judging.proofs.JudgingLaws.{goes-on}
-use Rattle.judging.proofs.SequenceLaws.{macroblock-rules}
+use Rattle.placement.proofs.MacroblockLaws.{alone-kept}
+use Rattle.sequence.proofs.JudgingLaws.{goes-on}
+use Rattle.sequence.proofs.SequenceLaws.{macroblock-rules}
 use Rattle.batch.specs.Commands.{Command, cut, commandsOf, macroblocksIn}
 use Rattle.batch.specs.Walk.{going, step, start}
 use Rattle.batch.proofs.Runs.{Run, batch-runs}

@@ -17,8 +17,8 @@ use Rattle.progress.specs.Progress.{fresh}
 use Rattle.progress.specs.declared.Progress.{Progress}
 use Rattle.progress.specs.declared.Verdict.{Verdict}
 use Rattle.progress.specs.declared.Verdict.the-variants.{Next, Stop}
-use Rattle.judging.specs.Judging.{judge}
-use Rattle.judging.proofs.SequenceLaws.{noop-passes}
+use Rattle.sequence.specs.Judging.{judge}
+use Rattle.sequence.proofs.SequenceLaws.{noop-passes}
 use Rattle.batch.specs.Commands.{Command, cut, commandsOf}
 use Rattle.batch.specs.Reports.{ending, verdictOf}
 use Rattle.batch.specs.Walk.{Walk, going, stopped, limit, after, settled, step, start}

@@ -15,7 +15,7 @@ use Rattle.headers.specs.Words.{wordAt}
 use Rattle.headers.specs.declared.Header.{Header}
 use Rattle.headers.proofs.HeaderLaws.{words-few}
 use Rattle.progress.specs.declared.Progress.{Progress}
-use Rattle.judging.specs.Judging.{judge}
+use Rattle.sequence.specs.Judging.{judge}
 use Rattle.progress.specs.declared.Verdict.{Verdict}
 use Rattle.progress.specs.declared.Verdict.the-variants.{Next, Stop}
 use Rattle.batch.specs.Walk.{Walk, going, stopped, limit, after, step, walkOf}

@@ -7,7 +7,7 @@ use lib.ListN.{length}
 use Rattle.fields.specs.Word.{flag}
 use Rattle.headers.specs.Headers.{headerOf, bySize, begins}
 use Rattle.headers.specs.Words.{wordAt}
-use Rattle.command.specs.Macroblocks.{macroblockOf}
+use Rattle.macroblock.specs.Macroblocks.{macroblockOf}
 use Rattle.headers.specs.declared.Header.{Header}
 use Rattle.headers.specs.declared.Opcode.{Opcode}
 use Rattle.headers.specs.declared.Opcode.the-variants.{Surface, Picture, Macroblock}

@@ -3,9 +3,9 @@ use Prim.Native.Nat.{ℕ, _/_, _%_, _<_}
 use mathlib.Core.List.{List, []}
 use lib.ListN.{length, getD}
 use Rattle.prediction.specs.declared.Position.{Position}
-use Rattle.command.specs.Macroblocks.{macroblockOf}
+use Rattle.macroblock.specs.Macroblocks.{macroblockOf}
 use Rattle.progress.specs.Buffers.{Buffer}
-use Rattle.macroblocks.specs.Touching.{referenceIn, TouchedBy}
+use Rattle.placement.specs.Touching.{referenceIn, TouchedBy}
 use Rattle.batch.specs.Commands.{commandsOf, macroblocksIn, frameOf, pictureIn}
 
 -- Document 01: "The k-th macroblock, from 0, is at column k mod W, row k div W."

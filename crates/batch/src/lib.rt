@@ -1,14 +1,6 @@
-// The check of a batch of commands.
-mod checking;
-mod reporting;
-mod walking;
-
-pub use checking::check;
-pub use checking::judge_batch;
+// What the check of a batch of commands answers.
 use progress::Extents;
 use progress::Progress;
-pub use reporting::report_of;
-pub use walking::walk;
 
 // The lengths in bytes of the four picture buffers that a batch is checked with.
 #[repr(C)]

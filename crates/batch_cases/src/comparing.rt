@@ -85,24 +85,24 @@ fn same(a: Numbers, b: Numbers) -> bool {
 fn in_two(words: &[u32], cut: usize, lengths: Lengths) -> Report
     requires { ⌜ cut ≤ length (now words) ⌝ }
 {
-    let first = parts::hand_over(parts::begin(lengths), &words[0..cut]);
-    let both = parts::hand_over(first, &words[cut..]);
-    parts::answer(both)
+    let first = parts_code::hand_over(parts_code::begin(lengths), &words[0..cut]);
+    let both = parts_code::hand_over(first, &words[cut..]);
+    parts_code::answer(both)
 }
 
 fn hand_word(state: State, word: u32) -> State {
     let part = [word];
-    parts::hand_over(state, &part)
+    parts_code::hand_over(state, &part)
 }
 
 fn word_by_word(words: &[u32], lengths: Lengths) -> Report {
-    let mut state = parts::begin(lengths);
+    let mut state = parts_code::begin(lengths);
     let mut i = 0;
     while i < words.len() {
         state = hand_word(state, words[i]);
         i += 1;
     }
-    parts::answer(state)
+    parts_code::answer(state)
 }
 
 fn compare_cuts(words: &[u32], lengths: Lengths, whole: Numbers) {

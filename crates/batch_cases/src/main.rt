@@ -5,13 +5,13 @@
 // Each batch is checked whole, in two parts at every cut, and word by word. rust/reference writes the cases and the lines that
 // are due.
 mod comparing;
-mod decoding;
-mod input;
+mod logging;
 mod printing;
+mod reading;
 
 use batch::Lengths;
-use input::Head;
 use libc::STDOUT_FILENO;
+use reading::Head;
 ghost use mathlib.Core.Path.{_≡_};
 ghost use lib.ListN.{length};
 
@@ -21,7 +21,7 @@ fn decode(words: &[u32], lengths: Lengths, log: &mut [u8], bytes: usize) {
         io::write_all(STDOUT_FILENO, b"log too long");
         return;
     }
-    decoding::print_decoded(words, lengths, &mut log[..bytes]);
+    logging::print_decoded(words, lengths, &mut log[..bytes]);
 }
 
 // Room for the longest stored log. A call, so that no proof meets 2000 zeros.
@@ -33,7 +33,7 @@ fn most_bytes() -> [u8; 2000]
 
 // Prints the line of a batch. Where an answer in parts is another, more stands behind it, so that the line is not the one due.
 fn print_line(words: &[u32], lengths: Lengths, lent: u32) {
-    let whole = batch::check(words, lengths);
+    let whole = batch_code::check(words, lengths);
     if lent == 0 {
         printing::print_report(whole);
     } else {
@@ -52,7 +52,7 @@ fn bad_input() -> bool {
 
 // Runs a case whose words are next, into this room that they fill, and answers whether they were there.
 fn run_case(room: &mut [u32], lengths: Lengths, lent: u32) -> bool {
-    if !input::read_words(room) {
+    if !reading::read_words(room) {
         return bad_input();
     }
     print_line(room, lengths, lent);
@@ -61,7 +61,7 @@ fn run_case(room: &mut [u32], lengths: Lengths, lent: u32) -> bool {
 
 // Runs the next case, with room for the words of any, and answers whether there was one.
 fn next_case(room: &mut [u32]) -> bool {
-    match input::read_head() {
+    match reading::read_head() {
         Head::End => false,
         Head::Bad => bad_input(),
         Head::Case(n, lengths, lent) => {

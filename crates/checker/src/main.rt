@@ -1,9 +1,9 @@
 // Reads the lengths of the four picture buffers and a batch from standard input, and prints the checker's line. What is read and
 // what is printed for it: the crate `stream`.
+use input::Line;
 use libc::STDERR_FILENO;
 use libc::STDIN_FILENO;
 use libc::STDOUT_FILENO;
-use stream::Line;
 ghost use Prim.Native.Nat.{_≤_};
 
 fn cannot_read() {
@@ -27,7 +27,7 @@ fn print(line: Line)
 // Reads to the end of the input, a buffer at a time, and prints the line. A loop that is proved has to end, and nothing says that an
 // input does: it counts its turns down from a number that no run uses up.
 fn run(buffer: &mut [u8]) {
-    let mut input = stream::begin();
+    let mut input = input_code::begin();
     let mut turns = u64::MAX;
     while 0 < turns {
         let got = libc::read(STDIN_FILENO, buffer);
@@ -36,11 +36,11 @@ fn run(buffer: &mut [u8]) {
             return;
         }
         if got == 0 {
-            print(stream::answer(input));
+            print(input_code::answer(input));
             return;
         }
         let n = io::count(got, buffer);
-        input = stream::hand_over(input, &buffer[..n]);
+        input = input_code::hand_over(input, &buffer[..n]);
         turns -= 1;
     }
     cannot_read();

@@ -25,7 +25,7 @@ fn header_case(word: u32) {
     io::write_all(STDOUT_FILENO, b"header ");
     print_hex(word, 8);
     io::write_all(STDOUT_FILENO, b" ");
-    let header = headers::read_header(word);
+    let header = headers_code::read_header(word);
     match header {
         Header::Known(opcode, count) => {
             print_name(opcode);
@@ -88,7 +88,7 @@ fn words_in(case: &[u8; 52]) -> [u32; 12] {
     let mut i = 0;
     while i < 12 {
         let at = 4 + 4 * i;
-        words[i] = fields::number32(case[at], case[at + 1], case[at + 2], case[at + 3]);
+        words[i] = fields_code::number32(case[at], case[at + 1], case[at + 2], case[at + 3]);
         i += 1;
     }
     words
@@ -96,7 +96,7 @@ fn words_in(case: &[u8; 52]) -> [u32; 12] {
 
 fn read_alone(words: &[u32], room: &mut [u8]) {
     io::write_all(STDOUT_FILENO, b"read ");
-    print_answer(records::read_command(words, room));
+    print_answer(records_code::read_command(words, room));
     print_bytes(room);
 }
 
@@ -115,14 +115,14 @@ fn command_case(given: u8, lent: u8, before: u8, words: [u32; 12]) {
 
 fn write_alone(bytes: &[u8], room: &mut [u32]) {
     io::write_all(STDOUT_FILENO, b"write ");
-    print_answer(records::write_command(bytes, room));
+    print_answer(records_code::write_command(bytes, room));
     print_words(room);
 }
 
 fn record_case(given: u8, lent: u8, before: u8, bytes: &[u8]) {
     let count = given as usize;
     let words = lent as usize;
-    let filler = fields::number32(before, before, before, before);
+    let filler = fields_code::number32(before, before, before, before);
     let mut room = [filler; 12];
     if count > bytes.len() {
         return;
@@ -142,7 +142,7 @@ fn next_case() -> bool {
     }
     let sort = case[0];
     if sort == 0 {
-        header_case(fields::number32(case[4], case[5], case[6], case[7]));
+        header_case(fields_code::number32(case[4], case[5], case[6], case[7]));
     }
     if sort == 1 {
         command_case(case[1], case[2], case[3], words_in(&case));

@@ -2,7 +2,7 @@
 pub mod Elements
 pub mod Fields
 pub mod LittleEndian
+pub mod Masks
 pub mod Packing
 -- for this crate alone
-mod Masks
 mod Worked

@@ -1,9 +1,4 @@
 // What a word begins, and the words of a command.
-mod reading;
-mod words;
-
-pub use reading::read_header;
-pub use words::word_at;
 
 // The word that begins a MACROBLOCK command.
 pub const MACROBLOCK_HEADER: u32 = 0x7349_0007;

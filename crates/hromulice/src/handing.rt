@@ -1,16 +1,16 @@
 // A batch in parts. Between two calls the state of the check is in memory that the caller lends; any content of it is taken.
-use crate::Summary;
 use crate::summaries;
 use batch::Lengths;
+use interface::Summary;
 ghost use mathlib.Core.Path.{_≡_};
-ghost use Rattle.hromulice.specs.Handing.{MemoryBegun, MemoryHanded, summaryIn};
+ghost use Rattle.interface.specs.Handing.{MemoryBegun, MemoryHanded, summaryIn};
 
 // A check with four buffers of these lengths, before its first word.
 #[no_mangle]
 pub extern "C" fn hromulice_begin(lengths: Lengths, memory: &mut [u64; 99])
     ensures { λ _. ⌜ MemoryBegun lengths (now (memory .exit)) ⌝ }
 {
-    *memory = memory::state_words(parts::begin(lengths));
+    *memory = memory_code::state_words(parts_code::begin(lengths));
 }
 
 // The next part. After a refusal the answer stays.
@@ -18,8 +18,8 @@ pub extern "C" fn hromulice_begin(lengths: Lengths, memory: &mut [u64; 99])
 pub extern "C" fn hromulice_hand_over(memory: &mut [u64; 99], part: &[u32])
     ensures { λ _. ⌜ MemoryHanded (now (memory .entry)) (now (part .entry)) (now (memory .exit)) ⌝ }
 {
-    let state = memory::state_in(memory);
-    *memory = memory::state_words(parts::hand_over(state, part));
+    let state = memory_code::state_in(memory);
+    *memory = memory_code::state_words(parts_code::hand_over(state, part));
 }
 
 // The answer to all words so far, taken as a whole batch.
@@ -27,6 +27,6 @@ pub extern "C" fn hromulice_hand_over(memory: &mut [u64; 99], part: &[u32])
 pub extern "C" fn hromulice_report_of(memory: &[u64; 99]) -> Summary
     ensures { λ r. ⌜ r ≡ summaryIn (now (memory .entry)) ⌝ }
 {
-    let state = memory::state_in(memory);
-    summaries::summary_of(parts::answer(state))
+    let state = memory_code::state_in(memory);
+    summaries::summary_of(parts_code::answer(state))
 }

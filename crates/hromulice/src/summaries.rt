@@ -1,13 +1,13 @@
 // Answers as numbers.
-use crate::Outcome;
-use crate::Summary;
 use answers::Answer;
 use batch::Lengths;
 use batch::Report;
+use interface::Outcome;
+use interface::Summary;
 use progress::Extents;
 ghost use mathlib.Core.Path.{_≡_};
 ghost use Rattle.batch.specs.declared.Report.the-variants.{Short};
-ghost use Rattle.hromulice.specs.Summaries.{summaryOf, outcomeOf};
+ghost use Rattle.interface.specs.Summaries.{summaryOf, outcomeOf};
 
 // A number and a place with the four lengths of what is touched.
 fn measured(number: u8, place: u64, extents: Extents) -> Summary

@@ -1,6 +1,6 @@
 // The version of the library.
 ghost use mathlib.Core.Path.{_≡_};
-ghost use Rattle.hromulice.specs.Version.{libraryVersion, versionNumber};
+ghost use Rattle.interface.specs.Version.{libraryVersion, versionNumber};
 
 const MAJOR: u32 = 1;
 

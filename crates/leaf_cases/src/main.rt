@@ -12,17 +12,18 @@ use prediction::Extent;
 use prediction::Grid;
 use prediction::Position;
 use prediction::Surface;
+use prediction_code::extents;
 
 fn fields_case(case: &[u8; 24]) {
     let hi = case[2];
     let lo = case[3];
-    let word = fields::number32(case[4], case[5], case[6], case[7]);
-    let value = fields::number32(case[16], case[17], case[18], case[19]);
-    io::print_hex(STDOUT_FILENO, fields::bits(word, hi, lo) as u64, 8);
+    let word = fields_code::number32(case[4], case[5], case[6], case[7]);
+    let value = fields_code::number32(case[16], case[17], case[18], case[19]);
+    io::print_hex(STDOUT_FILENO, fields_code::bits(word, hi, lo) as u64, 8);
     io::write_all(STDOUT_FILENO, b" ");
     io::print_hex(
         STDOUT_FILENO,
-        fields::with_bits(word, hi, lo, value) as u64,
+        fields_code::with_bits(word, hi, lo, value) as u64,
         8,
     );
     io::write_all(STDOUT_FILENO, b"\n");
@@ -43,7 +44,7 @@ fn print_block(block: Block) {
         }
         Block::Inside(extent) => {
             io::write_all(STDOUT_FILENO, b"inside ");
-            let touched = Extent::empty().join(extent);
+            let touched = extents::join(extents::empty(), extent);
             io::print_decimal(STDOUT_FILENO, touched.end);
             io::write_all(STDOUT_FILENO, b"\n");
         }
@@ -51,16 +52,21 @@ fn print_block(block: Block) {
 }
 
 fn block_case(case: &[u8; 24]) {
-    let chroma_row = fields::number16(case[2], case[3]);
-    let pitch = fields::number32(case[4], case[5], case[6], case[7]);
-    let columns = fields::number16(case[8], case[9]);
-    let rows = fields::number16(case[10], case[11]);
-    let column = fields::number16(case[12], case[13]);
-    let row = fields::number16(case[14], case[15]);
+    let chroma_row = fields_code::number16(case[2], case[3]);
+    let pitch = fields_code::number32(case[4], case[5], case[6], case[7]);
+    let columns = fields_code::number16(case[8], case[9]);
+    let rows = fields_code::number16(case[10], case[11]);
+    let column = fields_code::number16(case[12], case[13]);
+    let row = fields_code::number16(case[14], case[15]);
     print_label(case[22]);
-    let vector = prediction::vector_of(fields::number32(case[16], case[17], case[18], case[19]));
-    io::print_hex(STDOUT_FILENO, prediction::word_of(vector) as u64, 8);
-    if prediction::vector_in_range(vector, case[20], case[21]) {
+    let vector = prediction_code::vector_of(fields_code::number32(
+        case[16],
+        case[17],
+        case[18],
+        case[19],
+    ));
+    io::print_hex(STDOUT_FILENO, prediction_code::word_of(vector) as u64, 8);
+    if prediction_code::vector_in_range(vector, case[20], case[21]) {
         io::write_all(STDOUT_FILENO, b" range ");
     } else {
         io::write_all(STDOUT_FILENO, b" beyond ");
@@ -68,7 +74,7 @@ fn block_case(case: &[u8; 24]) {
     let surface = Surface { pitch, chroma_row };
     let grid = Grid { columns, rows };
     let position = Position { column, row };
-    print_block(prediction::block_at(surface, grid, position, vector));
+    print_block(prediction_code::block_at(surface, grid, position, vector));
 }
 
 // Runs the next case and answers whether there was one.

@@ -1,4 +1,2 @@
 -- for the crates above
 pub mod MemoryLaws
--- for this crate alone
-mod CopyLaws

@@ -1,6 +1,1 @@
 // The state of a check in parts as 99 words of memory, so that a caller who lends them need not know its fields.
-mod reading;
-mod storing;
-
-pub use reading::state_in;
-pub use storing::state_words;

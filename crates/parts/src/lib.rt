@@ -1,12 +1,5 @@
 // The check of a batch that is handed over in parts.
-mod answering;
-mod handing;
-mod holding;
-
-pub use answering::answer;
 use batch::Lengths;
-pub use handing::begin;
-pub use handing::hand_over;
 use progress::Progress;
 
 // A check under way. The command in progress begins at word `at`; the first `held` words of the buffer have come of it. A check

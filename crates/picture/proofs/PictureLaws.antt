@@ -9,7 +9,7 @@ use lib.Dec.{T, leb}
 use Rattle.answers.specs.Answers.{judged}
 use Rattle.answers.specs.declared.Answer.the-variants.{Accepted}
 use Rattle.answers.proofs.Judging.{all-hold, within}
-use Rattle.command.proofs.CaseLaws.{and-left, and-right}
+use Rattle.macroblock.proofs.CaseLaws.{and-left, and-right}
 use Rattle.picture.specs.Pictures.{pictureOf, fits, pictureTable, pictureRules}
 use Rattle.picture.specs.Surfaces.{surfaceTable, surfaceRules}
 use Rattle.picture.specs.declared.Frame.{Frame}

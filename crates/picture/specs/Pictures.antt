@@ -7,7 +7,7 @@ use Rattle.fields.specs.Word.{bits, hasBits}
 use Rattle.prediction.specs.declared.Grid.{Grid}
 use Rattle.answers.specs.Answers.{Rule, rule}
 use Rattle.headers.specs.Words.{wordAt}
-use Rattle.command.specs.Rules.{zeroBits}
+use Rattle.macroblock.specs.Rules.{zeroBits}
 use Rattle.picture.specs.declared.Codes.{Codes}
 use Rattle.picture.specs.declared.Frame.{Frame}
 use Rattle.picture.specs.declared.Picture.{Picture}

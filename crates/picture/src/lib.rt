@@ -1,13 +1,6 @@
 // What the SURFACE and PICTURE commands say, and the rules that they keep.
-mod pictures;
-mod surfaces;
-
-pub use pictures::picture_fault;
-pub use pictures::picture_of;
 use prediction::Grid;
 use prediction::Surface;
-pub use surfaces::surface_fault;
-pub use surfaces::surface_of;
 
 // What SURFACE says: the picture's size in samples, and the layout of its buffers.
 pub struct Frame {

@@ -1,16 +1,16 @@
 -- for the crates above
-pub mod TwosComplement
-pub mod ExtentLaws
+pub mod AddressGrows
 pub mod BlockLaws
+pub mod CodeRange
+pub mod Components
+pub mod ExtentLaws
+pub mod Integers
+pub mod LineCode
 pub mod LineLaws
+pub mod TwosComplement
 -- for this crate alone
-mod Integers
-mod Components
-mod CodeRange
-mod ChromaInside
-mod AddressGrows
 mod AddressOnce
-mod SpanLaws
 mod BlockBytes
-mod LineCode
+mod ChromaInside
+mod SpanLaws
 mod Worked

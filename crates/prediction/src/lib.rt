@@ -1,21 +1,5 @@
-// Motion vectors, the samples they predict from, and the bytes those samples stand at. No other crate knows half samples,
+// Motion vectors, the samples they predict from, and the bytes those samples stand at. No other crate speaks of half samples,
 // chroma halving or byte addresses.
-mod addresses;
-mod blocks;
-mod extents;
-mod lines;
-mod ranges;
-mod spans;
-mod vectors;
-
-pub use blocks::block_at;
-pub use lines::chroma_highest;
-pub use lines::line_of;
-pub use lines::reach_of;
-pub use lines::vector_in_lines;
-pub use ranges::vector_in_range;
-pub use vectors::vector_of;
-pub use vectors::word_of;
 
 // A motion vector in half samples, x to the right and y down.
 pub struct Vector {

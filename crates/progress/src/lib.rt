@@ -1,13 +1,8 @@
 // How far a batch has come, as the rules of its next command read it.
-use picture::Codes;
 use picture::Frame;
 use picture::Picture;
 use prediction::Extent;
-use prediction::Grid;
 use prediction::Position;
-use prediction::Surface;
-ghost use mathlib.Core.Path.{_≡_};
-ghost use Rattle.progress.specs.Progress.{fresh};
 
 // Which commands have come. A group is open from its SLICEGROUP to LastMbInSG, a slice from its first macroblock to its last;
 // group_start holds from SLICEGROUP to the group's first macroblock.
@@ -52,60 +47,4 @@ pub struct Progress {
 pub enum Verdict {
     Next(Progress),
     Stop(u8, u64),
-}
-
-impl Progress {
-    // Before the first word.
-    pub fn fresh() -> Progress
-        ensures { λ r. ⌜ r ≡ fresh ⌝ }
-    {
-        let stage = Stage {
-            surfaced: false,
-            pictured: false,
-            grouped: false,
-            in_group: false,
-            group_start: false,
-            in_slice: false,
-            ended: false,
-        };
-        let frame = Frame {
-            width: 0,
-            height: 0,
-            surface: Surface {
-                pitch: 0,
-                chroma_row: 0,
-            },
-        };
-        let picture = Picture {
-            coding: 0,
-            forward: Codes { x: 0, y: 0 },
-            backward: Codes { x: 0, y: 0 },
-            grid: Grid {
-                columns: 0,
-                rows: 0,
-            },
-        };
-        let previous = Previous {
-            kind: 0,
-            five: 0,
-            six: 0,
-            seven: 0,
-            eight: 0,
-        };
-        let none = Extent::empty();
-        let extents = Extents {
-            source: none,
-            reconstructed: none,
-            forward: none,
-            backward: none,
-        };
-        Progress {
-            stage,
-            frame,
-            picture,
-            position: Position { column: 0, row: 0 },
-            previous,
-            extents,
-        }
-    }
 }

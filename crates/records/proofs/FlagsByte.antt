@@ -4,7 +4,7 @@ use Prim.Native.Nat.{ℕ, _/_, _%_, _<_}
 use native.Mathlib.Omega.{arith}
 use Rattle.fields.specs.Word.{packed}
 use Rattle.fields.proofs.Packing.{packed-field, packed-lt}
-use Rattle.command.specs.declared.Flags.{Flags}
+use Rattle.macroblock.specs.declared.Flags.{Flags}
 use Rattle.records.specs.Records.{flagFields}
 
 pub flags-lt : (f : Flags) → packed (flagFields f) < 64

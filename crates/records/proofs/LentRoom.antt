@@ -11,7 +11,7 @@ use Rattle.answers.specs.declared.Answer.{Answer}
 use Rattle.answers.specs.declared.Answer.the-variants.{Accepted, Refused}
 use Rattle.headers.specs.Headers.{macroblockHeader}
 use Rattle.headers.specs.Words.{wordAt}
-use Rattle.command.specs.Rules.{commandRules}
+use Rattle.macroblock.specs.Rules.{commandRules}
 use Rattle.records.specs.Alone.{next, lentAfter, roomFor, readFault, recordFault}
 use Rattle.records.specs.RecordRules.{recordRules}
 

@@ -1,9 +1,8 @@
 -- for the crates above
+pub mod FlagsByte
+pub mod LentRoom
 pub mod RecordLaws
 pub mod RoundTrips
+pub mod Spelling
 -- for this crate alone
-mod FlagsByte
-mod LentRoom
-mod Spelling
 mod Worked
-mod ZeroBytes

@@ -18,19 +18,19 @@ use Rattle.prediction.proofs.TwosComplement.{vector-word-back}
 use Rattle.answers.specs.Answers.{judged}
 use Rattle.answers.specs.declared.Answer.the-variants.{Accepted}
 use Rattle.answers.proofs.Judging.{Hold, all-hold, none-broken, hold-both, hold-each}
-use Rattle.command.specs.Cases.{motion, motionOf, caseOf}
-use Rattle.command.specs.Legal.{Legal}
-use Rattle.command.specs.Rules.{keptBy}
-use Rattle.command.specs.declared.Case.{Case}
-use Rattle.command.specs.declared.Case.the-variants.{Intra, Inter}
-use Rattle.command.specs.declared.Prediction.the-variants.{Forward, Backward, Both}
-use Rattle.command.specs.declared.Flags.{Flags}
-use Rattle.command.specs.declared.Kept.{Kept}
-use Rattle.command.specs.declared.Macroblock.{Macroblock}
-use Rattle.command.specs.declared.Motion.{Motion}
-use Rattle.command.proofs.CaseLaws.{and-left, and-right, kind-most, case-fits, case-back, motion-lt}
-use Rattle.command.proofs.CommandLaws.{flag-back, flag-again, bit-again, both-true, quantiser-lt}
-use Rattle.command.proofs.Congruence.{same-flags, same-macroblock}
+use Rattle.macroblock.specs.Cases.{motion, motionOf, caseOf}
+use Rattle.macroblock.specs.Legal.{Legal}
+use Rattle.macroblock.specs.Rules.{keptBy}
+use Rattle.macroblock.specs.declared.Case.{Case}
+use Rattle.macroblock.specs.declared.Case.the-variants.{Intra, Inter}
+use Rattle.macroblock.specs.declared.Prediction.the-variants.{Forward, Backward, Both}
+use Rattle.macroblock.specs.declared.Flags.{Flags}
+use Rattle.macroblock.specs.declared.Kept.{Kept}
+use Rattle.macroblock.specs.declared.Macroblock.{Macroblock}
+use Rattle.macroblock.specs.declared.Motion.{Motion}
+use Rattle.macroblock.proofs.CaseLaws.{and-left, and-right, kind-most, case-fits, case-back, motion-lt}
+use Rattle.macroblock.proofs.CommandLaws.{flag-back, flag-again, bit-again, both-true, quantiser-lt}
+use Rattle.macroblock.proofs.Congruence.{same-flags, same-macroblock}
 use Rattle.records.specs.Layout.{Part, columnPart, rowPart, upperPart, kindPart, skipPart, patternPart, maxSizePart, targetSizePart, quantiserPart, flagsPart, fillerPart, forwardPart, backwardPart}
 use Rattle.records.specs.Records.{flagFields, flagsOf, valueAt, motionIn, recordOf, macroblockIn}
 use Rattle.records.specs.RecordRules.{hasForward, hasBackward, zeroBytes, unused, byteRules, zeroRules, recordRules}

@@ -15,15 +15,15 @@ use Rattle.answers.specs.Answers.{judged}
 use Rattle.answers.specs.declared.Answer.{Answer}
 use Rattle.answers.specs.declared.Answer.the-variants.{Accepted, Refused}
 use Rattle.answers.proofs.Judging.{no-accepted}
-use Rattle.command.specs.Cases.{motionOf}
+use Rattle.macroblock.specs.Cases.{motionOf}
 use Rattle.headers.specs.Headers.{macroblockHeader}
-use Rattle.command.specs.Legal.{Words, Command, Legal}
+use Rattle.macroblock.specs.Legal.{Words, Command, Legal}
 use Rattle.headers.specs.Words.{wordAt}
-use Rattle.command.specs.Macroblocks.{macroblockOf, wordsOf}
-use Rattle.command.specs.Rules.{commandRules}
-use Rattle.command.specs.declared.Macroblock.{Macroblock}
-use Rattle.command.proofs.CaseLaws.{vectors-four}
-use Rattle.command.proofs.CommandLaws.{macroblock-back, words-kept, word-below, macroblock-legal, words-back}
+use Rattle.macroblock.specs.Macroblocks.{macroblockOf, wordsOf}
+use Rattle.macroblock.specs.Rules.{commandRules}
+use Rattle.macroblock.specs.declared.Macroblock.{Macroblock}
+use Rattle.macroblock.proofs.CaseLaws.{vectors-four}
+use Rattle.macroblock.proofs.CommandLaws.{macroblock-back, words-kept, word-below, macroblock-legal, words-back}
 use Rattle.records.specs.Alone.{next, lentAfter, roomFor, readFault, readAnswer, readRoom, recordFault, writeAnswer, writeRoom, LegalRecord}
 use Rattle.records.specs.Records.{recordOf, macroblockIn}
 use Rattle.records.specs.RecordRules.{recordRules}

@@ -8,9 +8,9 @@ use native.Mathlib.Omega.{arith}
 use lib.ListN.{getD}
 use Rattle.fields.specs.Word.{flag, packed}
 use Rattle.fields.specs.Bytes.{bytesOf}
-use Rattle.command.specs.Cases.{motionOf}
-use Rattle.command.specs.declared.Macroblock.{Macroblock}
-use Rattle.command.proofs.CaseLaws.{kind-most}
+use Rattle.macroblock.specs.Cases.{motionOf}
+use Rattle.macroblock.specs.declared.Macroblock.{Macroblock}
+use Rattle.macroblock.proofs.CaseLaws.{kind-most}
 use Rattle.records.specs.Records.{flagFields, recordOf}
 use Rattle.records.proofs.FlagsByte.{flags-fit}
 

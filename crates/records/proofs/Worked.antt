@@ -6,9 +6,9 @@ use lib.ListN.{replicate}
 use Rattle.fields.specs.Word.{packed}
 use Rattle.prediction.specs.Vectors.{vectorOf, wordOf}
 use Rattle.answers.specs.Answers.{placeOf}
-use Rattle.command.specs.Cases.{motionOf, caseOf, vectorWords}
-use Rattle.command.specs.Macroblocks.{flagsIn, macroblockOf, wordsOf}
-use Rattle.command.specs.Rules.{keptBy, fieldRules, vectorRules, commandRules}
+use Rattle.macroblock.specs.Cases.{motionOf, caseOf, vectorWords}
+use Rattle.macroblock.specs.Macroblocks.{flagsIn, macroblockOf, wordsOf}
+use Rattle.macroblock.specs.Rules.{keptBy, fieldRules, vectorRules, commandRules}
 use Rattle.records.specs.Alone.{readFault, readAnswer, readRoom, recordFault}
 use Rattle.records.specs.Records.{flagFields, recordOf, macroblockIn}
 use Rattle.records.specs.RecordRules.{byteRules, zeroRules, recordRules}

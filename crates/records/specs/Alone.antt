@@ -7,10 +7,10 @@ use lib.Dec.{eqb, ltb}
 use lib.ListN.{length, drop, replicate}
 use Rattle.answers.specs.Answers.{judged}
 use Rattle.headers.specs.Headers.{macroblockHeader}
-use Rattle.command.specs.Legal.{Words}
+use Rattle.macroblock.specs.Legal.{Words}
 use Rattle.headers.specs.Words.{wordAt}
-use Rattle.command.specs.Macroblocks.{macroblockOf, wordsOf}
-use Rattle.command.specs.Rules.{commandRules}
+use Rattle.macroblock.specs.Macroblocks.{macroblockOf, wordsOf}
+use Rattle.macroblock.specs.Rules.{commandRules}
 use Rattle.answers.specs.declared.Answer.{Answer}
 use Rattle.answers.specs.declared.Answer.the-variants.{Accepted, Refused}
 use Rattle.records.specs.Layout.{recordLength}

@@ -5,8 +5,8 @@ use mathlib.Core.List.{List, [], _∷_, _++_}
 use lib.Dec.{eqb, leb}
 use lib.ListN.{getD}
 use Rattle.answers.specs.Answers.{Rule, rule}
-use Rattle.command.specs.Rules.{keptBy}
-use Rattle.command.specs.declared.Kept.{Kept}
+use Rattle.macroblock.specs.Rules.{keptBy}
+use Rattle.macroblock.specs.declared.Kept.{Kept}
 use Rattle.records.specs.Layout.{Part, kindPart, skipPart, patternPart, quantiserPart, flagsPart, fillerPart, forwardPart, backwardPart}
 use Rattle.records.specs.Records.{valueAt, macroblockIn}
 

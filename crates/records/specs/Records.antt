@@ -5,10 +5,10 @@ use lib.ListN.{replicate}
 use lib.Seq.{sets}
 use Rattle.fields.specs.Word.{Field, bits, isSet, flag, field, packed}
 use Rattle.fields.specs.Bytes.{bytesOf, numberOf, elements}
-use Rattle.command.specs.Cases.{motion, motionOf, caseOf}
-use Rattle.command.specs.declared.Flags.{Flags}
-use Rattle.command.specs.declared.Macroblock.{Macroblock}
-use Rattle.command.specs.declared.Motion.{Motion}
+use Rattle.macroblock.specs.Cases.{motion, motionOf, caseOf}
+use Rattle.macroblock.specs.declared.Flags.{Flags}
+use Rattle.macroblock.specs.declared.Macroblock.{Macroblock}
+use Rattle.macroblock.specs.declared.Motion.{Motion}
 use Rattle.records.specs.Layout.{recordLength, Part, columnPart, rowPart, upperPart, kindPart, skipPart, patternPart, maxSizePart, targetSizePart, quantiserPart, flagsPart, forwardPart, backwardPart}
 
 -- A part with the number that it holds.

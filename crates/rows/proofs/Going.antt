@@ -20,8 +20,8 @@ use Rattle.headers.specs.Words.{wordAt}
 use Rattle.answers.specs.Answers.{judged}
 use Rattle.answers.specs.declared.Answer.the-variants.{Accepted}
 use Rattle.progress.specs.declared.Progress.{Progress}
-use Rattle.macroblocks.specs.Placing.{macroblockRules}
-use Rattle.macroblocks.specs.Progressing.{positionAfter, stageAfter, macroblockNext}
+use Rattle.placement.specs.Placing.{macroblockRules}
+use Rattle.placement.specs.Progressing.{positionAfter, stageAfter, macroblockNext}
 use Rattle.rows.specs.Rows.{Follow, TakenFrom, previousIn, afterRow, AfterRow, OpenRow}
 use Rattle.rows.specs.Steps.{placeIn, reachIn, Found}
 use Rattle.rows.specs.Words.{dueBits}

@@ -14,13 +14,13 @@ use Rattle.headers.specs.Words.{wordAt}
 use Rattle.answers.specs.Answers.{judged}
 use Rattle.answers.specs.declared.Answer.the-variants.{Accepted}
 use Rattle.answers.proofs.Judging.{none-broken}
-use Rattle.command.specs.Cases.{motion, motionOf, caseOf, vectorWords}
-use Rattle.command.specs.Macroblocks.{isIntra, kindIn, flagsIn, macroblockOf, intraType}
-use Rattle.command.specs.Rules.{keptIf, keptBy, zeroBits, typePermitted, fixed1, fixed3, fixed4, fieldRules, vectorRules, copied, commandRules}
-use Rattle.command.proofs.CommandLaws.{both-true, bits-lt}
-use Rattle.macroblocks.specs.Blocks.{forwardOf, backwardOf, predicted, blocksOf}
-use Rattle.macroblocks.specs.Progressing.{previousOf}
-use Rattle.macroblocks.specs.Placing.{exactly, inSequence, codingPermits, zeroVectors, repeats, skipPermitted, atPosition, flagsAgree, placedBy, placedRules, macroblockRules}
+use Rattle.macroblock.specs.Cases.{motion, motionOf, caseOf, vectorWords}
+use Rattle.macroblock.specs.Macroblocks.{isIntra, kindIn, flagsIn, macroblockOf, intraType}
+use Rattle.macroblock.specs.Rules.{keptIf, keptBy, zeroBits, typePermitted, fixed1, fixed3, fixed4, fieldRules, vectorRules, copied, commandRules}
+use Rattle.macroblock.proofs.CommandLaws.{both-true, bits-lt}
+use Rattle.placement.specs.Blocks.{forwardOf, backwardOf, predicted, blocksOf}
+use Rattle.placement.specs.Progressing.{previousOf}
+use Rattle.placement.specs.Placing.{exactly, inSequence, codingPermits, zeroVectors, repeats, skipPermitted, atPosition, flagsAgree, placedBy, placedRules, macroblockRules}
 use Rattle.prediction.specs.declared.Position.{Position}
 use Rattle.progress.specs.declared.Previous.{Previous}
 use Rattle.progress.specs.declared.Progress.{Progress}

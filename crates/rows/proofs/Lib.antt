@@ -1,5 +1,5 @@
+-- for the crates above
+pub mod Going
 -- for this crate alone
-mod Finding
-mod Going
 mod Keeping
 mod Taking

@@ -26,10 +26,10 @@ use Rattle.headers.specs.Words.{wordAt}
 use Rattle.answers.specs.Answers.{judged}
 use Rattle.answers.specs.declared.Answer.the-variants.{Accepted}
 use Rattle.answers.proofs.Judging.{no}
-use Rattle.command.specs.Cases.{motion, motionOf, caseOf, vectorWords}
-use Rattle.command.specs.Macroblocks.{kindIn, flagsIn, macroblockOf}
-use Rattle.command.specs.declared.Case.{Case}
-use Rattle.command.specs.declared.Flags.{Flags}
+use Rattle.macroblock.specs.Cases.{motion, motionOf, caseOf, vectorWords}
+use Rattle.macroblock.specs.Macroblocks.{kindIn, flagsIn, macroblockOf}
+use Rattle.macroblock.specs.declared.Case.{Case}
+use Rattle.macroblock.specs.declared.Flags.{Flags}
 use Rattle.picture.specs.declared.Codes.{Codes}
 use Rattle.picture.specs.declared.Frame.{Frame}
 use Rattle.picture.specs.declared.Picture.{Picture}
@@ -37,9 +37,9 @@ use Rattle.progress.specs.declared.Extents.{Extents}
 use Rattle.progress.specs.declared.Previous.{Previous}
 use Rattle.progress.specs.declared.Progress.{Progress}
 use Rattle.progress.specs.declared.Stage.{Stage}
-use Rattle.macroblocks.specs.Blocks.{forwardOf, backwardOf, isInside, extentIn, predicted, blocksOf}
-use Rattle.macroblocks.specs.Placing.{codingPermits, macroblockRules}
-use Rattle.macroblocks.specs.Progressing.{positionAfter, stageAfter, previousOf, extentsAfter, progressAfter, macroblockNext}
+use Rattle.placement.specs.Blocks.{forwardOf, backwardOf, isInside, extentIn, predicted, blocksOf}
+use Rattle.placement.specs.Placing.{codingPermits, macroblockRules}
+use Rattle.placement.specs.Progressing.{positionAfter, stageAfter, previousOf, extentsAfter, progressAfter, macroblockNext}
 use Rattle.rows.specs.Rows.{afterRow, previousIn}
 use Rattle.rows.specs.Steps.{linesOf, isPredicted, typeIn, placeIn, reachIn, ForwardFits, BackwardFits, ForwardFound, BackwardFound, BothFound, IntraFound, Found}
 use Rattle.rows.specs.Words.{lowHalf, dueBits, FlagsKept, IntraKept, InterKept}

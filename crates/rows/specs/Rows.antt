@@ -9,8 +9,8 @@ use Rattle.answers.specs.declared.Answer.the-variants.{Accepted}
 use Rattle.headers.specs.Headers.{macroblockHeader}
 use Rattle.headers.specs.Words.{wordAt}
 use Rattle.progress.specs.declared.Progress.{Progress}
-use Rattle.macroblocks.specs.Placing.{macroblockRules}
-use Rattle.command.specs.Macroblocks.{kindIn, flagsIn}
+use Rattle.placement.specs.Placing.{macroblockRules}
+use Rattle.macroblock.specs.Macroblocks.{kindIn, flagsIn}
 use Rattle.prediction.specs.Extents.{joined}
 use Rattle.prediction.specs.Lines.{chromaHighest}
 use Rattle.prediction.specs.declared.Extent.{Extent}
@@ -18,7 +18,7 @@ use Rattle.prediction.specs.declared.Position.{Position}
 use Rattle.progress.specs.declared.Extents.{Extents}
 use Rattle.progress.specs.declared.Previous.{Previous}
 use Rattle.progress.specs.declared.Stage.{Stage}
-use Rattle.macroblocks.specs.Progressing.{positionAfter, stageAfter, previousOf, macroblockNext}
+use Rattle.placement.specs.Progressing.{positionAfter, stageAfter, previousOf, macroblockNext}
 use Rattle.rows.specs.Steps.{placeIn, reachIn}
 use Rattle.rows.specs.declared.Taken.{Taken}
 

@@ -1,14 +1,8 @@
-// The MACROBLOCK commands of one row of the picture, judged one behind the other at speed. A command that the tests here do not
-// take at once is left to the judge of single commands.
-mod after;
-mod row;
-mod stepping;
-mod words;
-
+// The MACROBLOCK commands of one row of the picture, as they are judged at speed. Nothing here is a rule: all of it is proved
+// against the rules of single commands.
 use prediction::Extent;
 use prediction::Line;
 use progress::Progress;
-pub use row::judge_row;
 
 // What a row of macroblocks came to: how many of the words were taken, and how far the batch has come with them.
 pub struct Taken {

@@ -3,8 +3,8 @@ use borrow.Author.Needs.{needs}
 use Rattle.batch.specs.Reports.{finish}
 use Rattle.parts.specs.States.{walkIn}
 use Rattle.parts.specs.declared.State.{State}
-use Rattle.hromulice.specs.Handing.{summaryIn}
-use Rattle.hromulice.specs.Summaries.{summaryOf}
+use Rattle.interface.specs.Handing.{summaryIn}
+use Rattle.interface.specs.Summaries.{summaryOf}
 use Rattle.hromulice.proofs.handing.hromulice_report_of.Statement.{statement}
 use Rattle.hromulice.proofs.handing.hromulice_report_of.Tie as tie
 

@@ -1,6 +1,6 @@
 use mathlib.Core.Path.{ap, sym}
 use borrow.Author.Needs.{needs}
-use Rattle.hromulice.specs.Summaries.{outcomeOf}
+use Rattle.interface.specs.Summaries.{outcomeOf}
 use Rattle.hromulice.proofs.summaries.outcome_of.Statement.{statement}
 use Rattle.hromulice.proofs.summaries.outcome_of.Tie as tie
 

@@ -1,6 +1,6 @@
 use mathlib.Core.Path.{ap, sym, _∙_}
 use borrow.Author.Needs.{needs}
-use Rattle.hromulice.specs.Summaries.{summaryOf}
+use Rattle.interface.specs.Summaries.{summaryOf}
 use Rattle.hromulice.proofs.summaries.summary_of.Statement.{statement}
 use Rattle.hromulice.proofs.summaries.summary_of.Tie as tie
 

@@ -1,6 +1,6 @@
 use mathlib.Core.Path.{ap, _∙_}
 use borrow.Author.Needs.{needs}
-use Rattle.hromulice.specs.Summaries.{summaryOf}
+use Rattle.interface.specs.Summaries.{summaryOf}
 use Rattle.hromulice.proofs.whole.hromulice_decode.Statement.{statement}
 use Rattle.hromulice.proofs.whole.hromulice_decode.Tie as tie
 

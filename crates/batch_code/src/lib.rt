@@ -1,0 +1,9 @@
+// Checks a batch of commands.
+mod checking;
+mod reporting;
+mod walking;
+
+pub use checking::check;
+pub use checking::judge_batch;
+pub use reporting::report_of;
+pub use walking::walk;

@@ -1,0 +1,55 @@
+-- Decoding: the log of a batch, and the answer with it. What is quoted is document 01.
+use Prim.Native.Nat.{ℕ, _*_, _≤_}
+use mathlib.Core.Bool.{cond}
+use mathlib.Core.List.{List, _++_, map, flatten}
+use mathlib.Core.Path.{_≡_}
+use lib.Dec.{ltb}
+use lib.ListN.{length, drop}
+use Rattle.prediction.specs.declared.Grid.{Grid}
+use Rattle.macroblock.specs.Macroblocks.{macroblockOf}
+use Rattle.records.specs.Layout.{recordLength}
+use Rattle.records.specs.Records.{recordOf}
+use Rattle.batch.specs.Commands.{commandsOf, macroblocksIn, pictureIn}
+use Rattle.batch.specs.Reports.{report}
+use Rattle.batch.specs.declared.Lengths.{Lengths}
+use Rattle.batch.specs.declared.Report.{Report}
+use Rattle.batch.specs.declared.Report.the-variants.{Accepted, Short, Refused}
+
+-- The record of one command, read alone.
+abbrev pub recordAlone : List ℕ → List ℕ
+recordAlone words = recordOf (macroblockOf words)
+
+-- The records of the batch's MACROBLOCK commands, one behind the other: "each is written at its own 24-byte place of the lent log, the
+-- k-th macroblock's at the k-th place".
+unfoldable pub logOf : List ℕ → List ℕ
+logOf ws = flatten (map recordAlone (macroblocksIn (commandsOf ws)))
+
+-- "Decoding needs 24·W·H bytes".
+abbrev pub logLength : Grid → ℕ
+logLength g = recordLength * (g .columns * g .rows)
+
+-- "14 lent room too small: bytes or words needed"; "14 last". The four lengths are reported with it.
+abbrev pub roomed : ℕ → List ℕ → Report → Report
+roomed needed log (Accepted e) = cond (ltb (length log) needed) (Short 14 needed e) (Accepted e)
+roomed needed log (Short n place e) = Short n place e
+roomed needed log (Refused n place) = Refused n place
+
+-- The answer to a batch that is decoded into a log.
+unfoldable pub decoded : Lengths → List ℕ → List ℕ → Report
+decoded l ws log = roomed (logLength (pictureIn ws .grid)) log (report l ws)
+
+-- The whole log afterwards: "bytes beyond stay"; "No refusal writes into lent memory."
+abbrev pub logAfter : Report → List ℕ → List ℕ → List ℕ
+logAfter (Accepted e) new log = new ++ drop (length new) log
+logAfter (Short n place e) new log = log
+logAfter (Refused n place) new log = log
+
+unfoldable pub decodedLog : Lengths → List ℕ → List ℕ → List ℕ
+decodedLog l ws log = logAfter (decoded l ws log) (logOf ws) log
+
+-- Decoding a batch into a lent log: by its contract it answers this, and the room is long enough.
+abbrev pub DecodedInto : List ℕ → List ℕ → Lengths → Report → Type 0
+DecodedInto log ws l r = r ≡ decoded l ws log
+
+abbrev pub RoomIn : List ℕ → List ℕ → Type 0
+RoomIn log ws = logLength (pictureIn ws .grid) ≤ length log

@@ -1,0 +1,1 @@
+// What decoding answers: the log of a batch.

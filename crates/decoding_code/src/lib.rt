@@ -1,0 +1,5 @@
+// Decodes a batch to its log.
+mod whole;
+mod writing;
+
+pub use whole::decode;

@@ -1,0 +1,60 @@
+-- The line of all bytes of an input: document 01, 'Program'.
+use Prim.Native.Nat.{ℕ, _*_, _%_}
+use mathlib.Core.Bool.{cond}
+use mathlib.Core.List.{List, [], _∷_, _++_}
+use lib.Dec.{eqb, ltb}
+use lib.ListN.{length, take, drop}
+use Rattle.fields.specs.Bytes.{numberOf, elements}
+use Rattle.batch.specs.Reports.{lengthsIn, report}
+use Rattle.batch.specs.declared.Lengths.{Lengths}
+use Rattle.batch.specs.declared.Report.{Report}
+use Rattle.batch.specs.declared.Report.the-variants.{Accepted, Short, Refused}
+use Rattle.input.specs.Text.{ascii, spaced}
+
+-- "four 8-byte lengths, little-endian", buffer 0 first.
+abbrev pub lengthAt : ℕ → List ℕ → ℕ
+lengthAt k bytes = numberOf (elements bytes (8 * k) 8)
+
+abbrev pub lengthsOf : List ℕ → Lengths
+lengthsOf bytes = record {
+  source = lengthAt 0 bytes;
+  reconstructed = lengthAt 1 bytes;
+  forward = lengthAt 2 bytes;
+  backward = lengthAt 3 bytes;
+}
+
+-- "then the batch as little-endian words": the whole words of some bytes.
+abbrev pub wordsOf : List ℕ → List ℕ
+wordsOf [] = []
+wordsOf (a ∷ []) = []
+wordsOf (a ∷ b ∷ []) = []
+wordsOf (a ∷ b ∷ c ∷ []) = []
+wordsOf (a ∷ b ∷ c ∷ d ∷ bytes) = numberOf (a ∷ b ∷ c ∷ d ∷ []) ∷ wordsOf bytes
+
+-- "One to three leftover bytes get 1, placed at the whole words, if nothing else was refused."
+abbrev pub leftOver : ℕ → ℕ → Report → Report
+leftOver bytes words (Accepted e) = cond (eqb bytes 0) (Accepted e) (Refused 1 words)
+leftOver bytes words (Short n place e) = Short n place e
+leftOver bytes words (Refused n place) = Refused n place
+
+-- The answer to a batch of bytes.
+unfoldable pub answerTo : Lengths → List ℕ → Report
+answerTo l bytes = leftOver (length bytes % 4) (length (wordsOf bytes)) (report l (wordsOf bytes))
+
+-- "Standard input: four 8-byte lengths, little-endian, then the batch"; "16 fewer than 32 bytes before the batch: bytes read".
+unfoldable pub outcomeOf : List ℕ → Report
+outcomeOf bytes =
+    cond (ltb (length bytes) 32) (Refused 16 (length bytes)) (answerTo (lengthsOf (take 32 bytes)) (drop 32 bytes))
+
+-- "`accept` and the four lengths, or `refuse`, number and place, and for 13 the lengths too."
+abbrev pub textOf : Report → List ℕ
+textOf (Accepted e) = ascii "accept" ++ spaced (lengthsIn e)
+textOf (Short n place e) = ascii "refuse" ++ spaced (n ∷ place ∷ lengthsIn e)
+textOf (Refused n place) = ascii "refuse" ++ spaced (n ∷ place ∷ [])
+
+-- "It prints one line".
+abbrev pub lineFor : Report → List ℕ
+lineFor r = textOf r ++ ascii "\n"
+
+unfoldable pub lineOf : List ℕ → List ℕ
+lineOf bytes = lineFor (outcomeOf bytes)

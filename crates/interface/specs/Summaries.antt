@@ -1,0 +1,28 @@
+-- Answers as structs of numbers: document 01's number, place and lengths.
+use Rattle.answers.specs.Answers as answer
+use Rattle.answers.specs.declared.Answer.{Answer}
+use Rattle.progress.specs.Buffers.{source, reconstructed, forward, backward}
+use Rattle.batch.specs.Demand.{reportedFor}
+use Rattle.batch.specs.Reports.{numberOf, placeOf}
+use Rattle.batch.specs.declared.Report.{Report}
+use Rattle.interface.specs.declared.Outcome.{Outcome}
+use Rattle.interface.specs.declared.Summary.{Summary}
+
+-- The answer to a batch. "The four lengths are reported with 0, 13 and 14, else zeros."
+abbrev pub summaryOf : Report → Summary
+summaryOf r =
+    record {
+      number = numberOf r;
+      place = placeOf r;
+      lengths =
+          record {
+            source = reportedFor source r;
+            reconstructed = reportedFor reconstructed r;
+            forward = reportedFor forward r;
+            backward = reportedFor backward r;
+          };
+    }
+
+-- The answer to one command or one record.
+abbrev pub outcomeOf : Answer → Outcome
+outcomeOf a = record { number = answer.numberOf a; place = answer.placeOf a }

@@ -1,5 +1,0 @@
-// Decoding: the log of a batch.
-mod decoding;
-mod writing;
-
-pub use decoding::decode;

@@ -1,0 +1,77 @@
+-- The rules that a MACROBLOCK command keeps by itself, without its picture.
+use Prim.Native.Nat.{ℕ}
+use mathlib.Core.Bool.{Bool, cond, not, _&&_, _||_}
+use mathlib.Core.List.{List, [], _∷_, _++_}
+use lib.Dec.{eqb, leb}
+use Rattle.fields.specs.Word.{bits, hasBits, isSet}
+use Rattle.answers.specs.Answers.{Rule, rule}
+use Rattle.macroblock.specs.Cases.{vectorWords}
+use Rattle.headers.specs.Words.{wordAt}
+use Rattle.macroblock.specs.Macroblocks.{isIntra, intraType, motionIn, macroblockOf}
+use Rattle.macroblock.specs.declared.Kept.{Kept}
+use Rattle.macroblock.specs.declared.Macroblock.{Macroblock}
+
+-- The rules of the macroblock itself, which its log record keeps too; intra says how it is coded.
+abbrev pub keptIf : Bool → Macroblock → Kept
+keptIf intra m =
+    record {
+      -- "Intra: .. skip zero."
+      «intra_not_skipped» = not (m .skip && intra);
+      -- "Intra: pattern 63."
+      «intra_pattern» = not intra || eqb (m .pattern) 63;
+      -- "quantiser 1 to 31"
+      quantiser = leb 1 (m .quantiser) && leb (m .quantiser) 31;
+      -- "Skip: neither first nor last in slice (bits 30 and 31 of word 4 zero)"
+      «skip_inside_slice» = not (m .skip && (m .flags .«first_in_slice» || m .flags .«last_in_slice»));
+      -- "Skip: .. pattern zero"
+      «skip_pattern» = not (m .skip) || eqb (m .pattern) 0;
+    }
+
+unfoldable pub keptBy : Macroblock → Kept
+keptBy m = keptIf (isIntra (m .case)) m
+
+-- Bits of a word that are zero.
+abbrev pub zeroBits : ℕ → ℕ → ℕ → Bool
+zeroBits word hi lo = hasBits word hi lo 0
+
+-- Word 1: "Intra: type 1Ah .. Inter: 1 forward, 2 backward, 3 both."
+abbrev pub typePermitted : ℕ → Bool
+typePermitted w = cond (isSet (bits w 13 13)) (eqb (bits w 12 8) intraType) (leb 1 (bits w 12 8) && leb (bits w 12 8) 3)
+
+-- The bits of words 1, 3 and 4 that have one value: "15, 14, 7:3 zero .. 1:0 zero"; "15:12 zero .. 5:0 zero"; "all else zero".
+abbrev pub fixed1 : ℕ → Bool
+fixed1 w = zeroBits w 15 14 && (zeroBits w 7 3 && zeroBits w 1 0)
+
+abbrev pub fixed3 : ℕ → Bool
+fixed3 w = zeroBits w 15 12 && zeroBits w 5 0
+
+abbrev pub fixed4 : ℕ → Bool
+fixed4 w = zeroBits w 29 28 && zeroBits w 23 5
+
+-- The tables: number, word, and whether the rule holds. "A word's bits that must always have one value give 4; any other rule
+-- of a word list without a number of its own gives 5, skip on an intra macroblock .. included." "11 skip rule: word 1".
+unfoldable pub fieldRules : Bool → Bool → Bool → Bool → Kept → List Rule
+fieldRules bits1 typed bits3 bits4 kept =
+    rule 4 1 bits1
+    ∷ rule 5 1 (typed && kept .«intra_not_skipped»)
+    ∷ rule 11 1 (kept .«skip_inside_slice» && kept .«skip_pattern»)
+    ∷ rule 4 3 bits3
+    ∷ rule 5 3 (kept .«intra_pattern»)
+    ∷ rule 4 4 bits4
+    ∷ rule 5 4 (kept .quantiser)
+    ∷ []
+
+-- Words 5 to 8: whether each is the vector that is there, or the copy in place of one that is missing.
+unfoldable pub vectorRules : Bool → Bool → Bool → Bool → List Rule
+vectorRules five six seven eight = rule 8 5 five ∷ rule 8 6 six ∷ rule 8 7 seven ∷ rule 8 8 eight ∷ []
+
+-- Word i of a command is what stands in the j-th of its words 5 to 8, j from 0.
+abbrev pub copied : List ℕ → ℕ → ℕ → Bool
+copied ws i j = eqb (wordAt ws i) (wordAt (vectorWords (motionIn ws)) j)
+
+-- What a command keeps by itself: "4, 5 (without picture type), 8 and the first two skip rules". A picture's rules are further
+-- tables beside these; `judged` takes them in the order of their words and numbers.
+unfoldable pub commandRules : List ℕ → List Rule
+commandRules ws =
+    fieldRules (fixed1 (wordAt ws 1)) (typePermitted (wordAt ws 1)) (fixed3 (wordAt ws 3)) (fixed4 (wordAt ws 4)) (keptBy (macroblockOf ws))
+    ++ vectorRules (copied ws 5 0) (copied ws 6 1) (copied ws 7 2) (copied ws 8 3)

@@ -1,0 +1,79 @@
+use Rattle.macroblock.proofs.Congruence.{same-macroblock}
+use mathlib.Core.Path.{refl}
+use borrow.Author.Needs.{needs}
+use Rattle.macroblock_code.proofs.reading.assembled.Statement.{statement}
+use Rattle.macroblock_code.proofs.reading.assembled.Tie as tie
+
+flags-in-requires : tie.Need-flags-in-requires
+flags-in-requires c κs = search needs
+
+bits-requires : tie.Need-bits-requires
+bits-requires c κs = search needs
+
+cast-t8 : tie.Need-cast-t8
+cast-t8 c = search needs
+
+bits-requires-2 : tie.Need-bits-requires-2
+bits-requires-2 c κs = search needs
+
+cast-t10 : tie.Need-cast-t10
+cast-t10 c = search needs
+
+bits-requires-3 : tie.Need-bits-requires-3
+bits-requires-3 c κs = search needs
+
+cast-t12 : tie.Need-cast-t12
+cast-t12 c = search needs
+
+is-set-requires : tie.Need-is-set-requires
+is-set-requires c κs = search needs
+
+bits-requires-4 : tie.Need-bits-requires-4
+bits-requires-4 c κs = search needs
+
+cast-t15 : tie.Need-cast-t15
+cast-t15 c = search needs
+
+bits-requires-5 : tie.Need-bits-requires-5
+bits-requires-5 c κs = search needs
+
+cast-t17 : tie.Need-cast-t17
+cast-t17 c = search needs
+
+bits-requires-6 : tie.Need-bits-requires-6
+bits-requires-6 c κs = search needs
+
+cast-t19 : tie.Need-cast-t19
+cast-t19 c = search needs
+
+bits-requires-7 : tie.Need-bits-requires-7
+bits-requires-7 c κs = search needs
+
+cast-t21 : tie.Need-cast-t21
+cast-t21 c = search needs
+
+returns : tie.Need-returns
+returns c =
+    same-macroblock (c .before .before .before .before .before .before .before .bits .ensures) (c .before .before .before .before .before .before .bits2 .ensures) (c .before .before .before .before .before .bits3 .ensures) refl (c .before .before .before .before .is-set .ensures) (c .before .before .before .bits4 .ensures) (c .before .before .bits5 .ensures) (c .before .bits6 .ensures) (c .bits7 .ensures) (c .before .before .before .before .before .before .before .before .flags-in .ensures)
+
+pub assembled-spec : {M : Type 1} → statement M
+assembled-spec =
+    tie.close
+    (tie.spec
+    flags-in-requires
+    bits-requires
+    cast-t8
+    bits-requires-2
+    cast-t10
+    bits-requires-3
+    cast-t12
+    is-set-requires
+    bits-requires-4
+    cast-t15
+    bits-requires-5
+    cast-t17
+    bits-requires-6
+    cast-t19
+    bits-requires-7
+    cast-t21
+    returns)

@@ -1,0 +1,6 @@
+// Reads the state of a check in parts from lent words, and stores it there.
+mod reading;
+mod storing;
+
+pub use reading::state_in;
+pub use storing::state_words;

@@ -1,0 +1,16 @@
+use Rattle.macroblock.proofs.Congruence.{same-both}
+use borrow.Author.Needs.{needs}
+use Rattle.picture_code.proofs.pictures.in_use.Statement.{statement}
+use Rattle.picture_code.proofs.pictures.in_use.Tie as tie
+
+code-in-use-requires : tie.Need-code-in-use-requires
+code-in-use-requires c κs = search needs
+
+code-in-use-requires-2 : tie.Need-code-in-use-requires-2
+code-in-use-requires-2 c κs = search needs
+
+returns : tie.Need-returns
+returns c = same-both (c .before .code-in-use .ensures) (c .code-in-use2 .ensures)
+
+pub in-use-spec : {M : Type 1} → statement M
+in-use-spec = tie.close (tie.spec code-in-use-requires code-in-use-requires-2 returns)

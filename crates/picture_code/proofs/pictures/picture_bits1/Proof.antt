@@ -1,0 +1,29 @@
+use Rattle.macroblock.proofs.Congruence.{same-both}
+use borrow.Author.Needs.{needs}
+use Rattle.picture_code.proofs.pictures.picture_bits1.Statement.{statement}
+use Rattle.picture_code.proofs.pictures.picture_bits1.Tie as tie
+
+has-bits-requires : tie.Need-has-bits-requires
+has-bits-requires c κs = search needs
+
+has-bits-requires-2 : tie.Need-has-bits-requires-2
+has-bits-requires-2 c κs = search needs
+
+has-bits-requires-3 : tie.Need-has-bits-requires-3
+has-bits-requires-3 c κs = search needs
+
+has-bits-requires-4 : tie.Need-has-bits-requires-4
+has-bits-requires-4 c κs = search needs
+
+returns : tie.Need-returns
+returns c = same-both (same-both (c .before .before .before .has-bits .ensures) (c .before .before .has-bits2 .ensures)) (same-both (c .before .has-bits3 .ensures) (c .has-bits4 .ensures))
+
+pub picture-bits1-spec : {M : Type 1} → statement M
+picture-bits1-spec =
+    tie.close
+    (tie.spec
+    has-bits-requires
+    has-bits-requires-2
+    has-bits-requires-3
+    has-bits-requires-4
+    returns)

@@ -1,0 +1,69 @@
+// The words of a SURFACE command.
+use answers::Answer;
+use picture::Frame;
+use prediction::Surface;
+ghost use mathlib.Core.Path.{_≡_};
+ghost use Rattle.answers.specs.Answers.{judged};
+ghost use Rattle.picture.specs.Surfaces.{surfaceOf, surfaceBits3, surfaceTable, surfaceRules};
+
+// What a command's words say, legal or not.
+pub fn surface_of(words: &[u32]) -> Frame
+    ensures { λ r. ⌜ r ≡ surfaceOf (now (words .entry)) ⌝ }
+{
+    let two = headers_code::word_at(words, 2);
+    let three = headers_code::word_at(words, 3);
+    let four = headers_code::word_at(words, 4);
+    let surface = Surface {
+        pitch: fields_code::bits(three, 19, 3) + 1,
+        chroma_row: fields_code::bits(four, 14, 0) as u16,
+    };
+    Frame {
+        width: (fields_code::bits(two, 17, 4) + 1) as u16,
+        height: (fields_code::bits(two, 31, 18) + 1) as u16,
+        surface,
+    }
+}
+
+// Whether the bits of word 3 that have one value have it.
+fn surface_bits3(three: u32) -> bool
+    ensures { λ r. ⌜ r ≡ surfaceBits3 three ⌝ }
+{
+    let upper = fields_code::has_bits(three, 31, 28, 4) & fields_code::has_bits(three, 27, 27, 1);
+    let lower = fields_code::has_bits(three, 2, 2, 0) & fields_code::has_bits(three, 1, 0, 3);
+    upper & (fields_code::has_bits(three, 26, 20, 0) & lower)
+}
+
+// The first rule that is broken, from whether each is kept.
+fn surface_broken(bits1: bool, bits2: bool, bits3: bool, pitch: bool, bits4: bool) -> Answer
+    ensures { λ r. ⌜ r ≡ judged (surfaceTable bits1 bits2 bits3 pitch bits4) ⌝ }
+{
+    if !bits1 {
+        return Answer::Refused(4, 1);
+    }
+    if !bits2 {
+        return Answer::Refused(4, 2);
+    }
+    if !bits3 {
+        return Answer::Refused(4, 3);
+    }
+    if !pitch {
+        return Answer::Refused(5, 3);
+    }
+    if !bits4 {
+        return Answer::Refused(4, 4);
+    }
+    Answer::Accepted
+}
+
+// The first rule that a SURFACE command breaks, with its word as the place.
+pub fn surface_fault(words: &[u32]) -> Answer
+    ensures { λ r. ⌜ r ≡ judged (surfaceRules (now (words .entry))) ⌝ }
+{
+    let frame = surface_of(words);
+    let bits1 = headers_code::word_at(words, 1) == 0;
+    let bits2 = fields_code::has_bits(headers_code::word_at(words, 2), 3, 0, 0);
+    let bits3 = surface_bits3(headers_code::word_at(words, 3));
+    let pitch = frame.surface.pitch % 128 == 0;
+    let bits4 = fields_code::has_bits(headers_code::word_at(words, 4), 31, 15, 0);
+    surface_broken(bits1, bits2, bits3, pitch, bits4)
+}

@@ -1,0 +1,62 @@
+-- What a macroblock touches. Prediction is used through what its crate promises: `vectorInRange`, `blockAt` and laws about them.
+use mathlib.Core.Bool.{Bool, true, false}
+use Rattle.prediction.specs.Vectors.{still}
+use Rattle.prediction.specs.Ranges.{vectorInRange}
+use Rattle.prediction.specs.Extents.{emptyExtent}
+use Rattle.prediction.specs.Blocks.{blockAt}
+use Rattle.prediction.specs.declared.Block.{Block}
+use Rattle.prediction.specs.declared.Block.the-variants.{Outside, Inside}
+use Rattle.prediction.specs.declared.Extent.{Extent}
+use Rattle.prediction.specs.declared.Grid.{Grid}
+use Rattle.prediction.specs.declared.Position.{Position}
+use Rattle.prediction.specs.declared.Surface.{Surface}
+use Rattle.macroblock.specs.declared.Case.{Case}
+use Rattle.macroblock.specs.declared.Case.the-variants.{Intra, Inter}
+use Rattle.macroblock.specs.declared.Prediction.the-variants.{Forward, Backward, Both}
+use Rattle.picture.specs.declared.Codes.{Codes}
+use Rattle.progress.specs.declared.Progress.{Progress}
+use Rattle.placement.specs.declared.Blocks.{Blocks}
+use Rattle.placement.specs.declared.Predicted.{Predicted}
+use Rattle.placement.specs.declared.Reference.{Reference}
+use Rattle.placement.specs.declared.Reference.the-variants.{Unused, At}
+
+-- Document 01: "An inter macroblock carries its prediction, and that is forward, backward or both, with the vectors it has and no
+-- others."
+unfoldable pub forwardOf : Case → Reference
+forwardOf Intra = Unused
+forwardOf (Inter (Forward f)) = At f
+forwardOf (Inter (Backward b)) = Unused
+forwardOf (Inter (Both f b)) = At f
+
+unfoldable pub backwardOf : Case → Reference
+backwardOf Intra = Unused
+backwardOf (Inter (Forward f)) = Unused
+backwardOf (Inter (Backward b)) = At b
+backwardOf (Inter (Both f b)) = At b
+
+-- A block that lies in the picture, and what it touches.
+abbrev pub isInside : Block → Bool
+isInside Outside = false
+isInside (Inside e) = true
+
+abbrev pub extentIn : Block → Extent
+extentIn Outside = emptyExtent
+extentIn (Inside e) = e
+
+abbrev pub predictedIn : Bool → Block → Predicted
+predictedIn ranged b = record { «in_range» = ranged; inside = isInside b; extent = extentIn b }
+
+-- The block that a macroblock at a position is predicted from in one reference, under that reference's f codes.
+unfoldable pub predicted : Surface → Grid → Position → Codes → Reference → Predicted
+predicted s g at c Unused = record { «in_range» = true; inside = true; extent = emptyExtent }
+predicted s g at c (At v) = predictedIn (vectorInRange v (c .x) (c .y)) (blockAt s g at v)
+
+-- "Every macroblock, skipped ones too, touches its 16×16 luma and 8×8 chroma samples in buffers 0 and 1, and its predicted blocks
+-- in 2 (forward) and 3 (backward)."
+unfoldable pub blocksOf : Progress → Case → Blocks
+blocksOf p case =
+    record {
+      own = extentIn (blockAt (p .frame .surface) (p .picture .grid) (p .position) still);
+      forward = predicted (p .frame .surface) (p .picture .grid) (p .position) (p .picture .forward) (forwardOf case);
+      backward = predicted (p .frame .surface) (p .picture .grid) (p .position) (p .picture .backward) (backwardOf case);
+    }

@@ -1,0 +1,91 @@
+-- The rules of a MACROBLOCK command in its picture.
+use Prim.Native.Nat.{ℕ, _+_}
+use mathlib.Core.Bool.{Bool, not, _&&_, _||_}
+use mathlib.Core.List.{List, [], _∷_, _++_}
+use lib.Dec.{eqb, leb, ltb}
+use Rattle.prediction.specs.declared.Grid.{Grid}
+use Rattle.prediction.specs.declared.Position.{Position}
+use Rattle.answers.specs.Answers.{Rule, rule}
+use Rattle.macroblock.specs.Cases.{motionOf}
+use Rattle.headers.specs.Words.{wordAt}
+use Rattle.macroblock.specs.Macroblocks.{macroblockOf}
+use Rattle.macroblock.specs.Rules.{commandRules}
+use Rattle.macroblock.specs.declared.Flags.{Flags}
+use Rattle.macroblock.specs.declared.Macroblock.{Macroblock}
+use Rattle.progress.specs.declared.Previous.{Previous}
+use Rattle.progress.specs.declared.Progress.{Progress}
+use Rattle.progress.specs.declared.Stage.{Stage}
+use Rattle.placement.specs.Blocks.{blocksOf}
+use Rattle.placement.specs.declared.Blocks.{Blocks}
+use Rattle.placement.specs.declared.Placed.{Placed}
+
+-- "exactly when": both or neither.
+abbrev pub exactly : Bool → Bool → Bool
+exactly a b = (a && b) || (not a && not b)
+
+-- Document 01: "MACROBLOCK only in an open group and before W×H of them have come". The position's row is H when all have come.
+abbrev pub inSequence : Stage → Grid → Position → Bool
+inSequence s g at = s .«in_group» && ltb (at .row) (g .rows)
+
+-- "I allows intra only, P intra and 1, B all." Kind 0 is intra; coding is 1 for I, 2 for P, 3 for B.
+abbrev pub codingPermits : ℕ → ℕ → Bool
+codingPermits coding kind = eqb kind 0 || ((eqb coding 2 && eqb kind 1) || eqb coding 3)
+
+-- "Skip: .. in P words 5 to 8 all zero"
+abbrev pub zeroVectors : List ℕ → Bool
+zeroVectors ws = (eqb (wordAt ws 5) 0 && eqb (wordAt ws 6) 0) && (eqb (wordAt ws 7) 0 && eqb (wordAt ws 8) 0)
+
+-- "in B the macroblock before it is inter with the same type and the same words 5 to 8"
+abbrev pub repeats : Previous → ℕ → List ℕ → Bool
+repeats b kind ws =
+    (leb 1 (b .kind) && eqb (b .kind) kind)
+    && ((eqb (b .five) (wordAt ws 5) && eqb (b .six) (wordAt ws 6)) && (eqb (b .seven) (wordAt ws 7) && eqb (b .eight) (wordAt ws 8)))
+
+abbrev pub skipPermitted : ℕ → Previous → ℕ → List ℕ → Bool
+skipPermitted coding b kind ws = (not (eqb coding 2) || zeroVectors ws) && (not (eqb coding 3) || repeats b kind ws)
+
+-- "The k-th macroblock, from 0, is at column k mod W, row k div W." The position counts them: proofs/PositionLaws.antt.
+abbrev pub atPosition : Position → Macroblock → Bool
+atPosition at m = eqb (m .column) (at .column) && eqb (m .row) (at .row)
+
+-- "Flags: first-in-slice exactly when no slice is open; last-in-slice wherever the column is W−1; first-in-group exactly on the
+-- first macroblock after SLICEGROUP; last-in-group only with last-in-slice."
+abbrev pub flagsAgree : Stage → Grid → Position → Flags → Bool
+flagsAgree s g at f =
+    (exactly (f .«first_in_slice») (not (s .«in_slice»)) && (not (eqb (at .column + 1) (g .columns)) || f .«last_in_slice»))
+    && (exactly (f .«first_in_group») (s .«group_start») && (not (f .«last_in_group») || f .«last_in_slice»))
+
+-- Which rules hold of a macroblock with these blocks.
+unfoldable pub placedBy : Progress → Blocks → Macroblock → List ℕ → Placed
+placedBy p b m ws =
+    record {
+      sequence = inSequence (p .stage) (p .picture .grid) (p .position);
+      coding = codingPermits (p .picture .coding) (motionOf (m .case) .kind);
+      skip = not (m .skip) || skipPermitted (p .picture .coding) (p .previous) (motionOf (m .case) .kind) ws;
+      position = atPosition (p .position) m;
+      -- "25 no skip conversion (zero in I)"
+      conversion = not (eqb (p .picture .coding) 1) || not (m .flags .«no_skip_conversion»);
+      flags = flagsAgree (p .stage) (p .picture .grid) (p .position) (m .flags);
+      forward = b .forward;
+      backward = b .backward;
+    }
+
+-- The table: number, word, and whether the rule holds. "3 out of sequence: header"; "6 wrong position: word 2"; "7 slice or group
+-- flag: word 4"; "9 vector beyond f code: word 5 or 6"; "10 luma block outside picture: word 5 or 6"; "11 skip rule: word 1".
+unfoldable pub placedRules : Placed → List Rule
+placedRules r =
+    rule 3 0 (r .sequence)
+    ∷ rule 5 1 (r .coding)
+    ∷ rule 11 1 (r .skip)
+    ∷ rule 6 2 (r .position)
+    ∷ rule 5 4 (r .conversion)
+    ∷ rule 7 4 (r .flags)
+    ∷ rule 9 5 (r .forward .«in_range»)
+    ∷ rule 10 5 (r .forward .inside)
+    ∷ rule 9 6 (r .backward .«in_range»)
+    ∷ rule 10 6 (r .backward .inside)
+    ∷ []
+
+-- All rules of a MACROBLOCK command: those of its picture and those that it keeps by itself, in the order of words and numbers.
+unfoldable pub macroblockRules : Progress → List ℕ → List Rule
+macroblockRules p ws = placedRules (placedBy p (blocksOf p (macroblockOf ws .case)) (macroblockOf ws) ws) ++ commandRules ws

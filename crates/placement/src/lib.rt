@@ -1,0 +1,35 @@
+// The rules of a MACROBLOCK command in its picture, and what it touches.
+use prediction::Extent;
+use prediction::Vector;
+
+// A reference picture as one macroblock uses it: not at all, or at a vector.
+pub enum Reference {
+    Unused,
+    At(Vector),
+}
+
+// Whether a predicted block keeps its rules, and what it touches of its reference.
+pub struct Predicted {
+    pub in_range: bool,
+    pub inside: bool,
+    pub extent: Extent,
+}
+
+// What a macroblock touches: its own samples, and its predicted blocks.
+pub struct Blocks {
+    pub own: Extent,
+    pub forward: Predicted,
+    pub backward: Predicted,
+}
+
+// Which rules of a macroblock in its picture hold.
+pub struct Placed {
+    pub sequence: bool,
+    pub coding: bool,
+    pub skip: bool,
+    pub position: bool,
+    pub conversion: bool,
+    pub flags: bool,
+    pub forward: Predicted,
+    pub backward: Predicted,
+}

@@ -1,0 +1,41 @@
+-- What the tests of a command find, put together by what it came to.
+use mathlib.Core.Bool.{Bool}
+use mathlib.Core.List.{List}
+use mathlib.Core.Logic.{inl, inr}
+use mathlib.Core.Path.{_≡_, subst, subst₂}
+use Prim.Native.Nat.{ℕ, _+_}
+use lib.Dec.{eqb}
+use Rattle.prediction.specs.declared.Extent.{Extent}
+use Rattle.headers.specs.Headers.{macroblockHeader}
+use Rattle.headers.specs.Words.{wordAt}
+use Rattle.progress.specs.declared.Progress.{Progress}
+use Rattle.rows.specs.Steps.{AtWord, typeIn, ByForward, ByBackward, ByBoth, ByInter, StepFrom}
+use Rattle.rows.specs.Words.{FlagsKept, InterKept}
+use Rattle.rows.specs.declared.Step.{Step}
+use Rattle.rows.specs.declared.Step.the-variants.{Kept, Left}
+
+module _ (p : Progress) (column : ℕ) (forward backward : Extent) (ws before : List ℕ) where
+  module _ (k : InterKept (p .picture .coding) before ws) where
+    pub from-forward : (r : Step) → typeIn ws ≡ 0x100 → ByForward p column forward backward ws r → ByInter p column forward backward ws before r
+    from-forward (Kept f b) t h = (k, inl (h t))
+    from-forward Left t h = tt
+
+    pub from-backward : (r : Step) → typeIn ws ≡ 0x200 → ByBackward p column forward backward ws r → ByInter p column forward backward ws before r
+    from-backward (Kept f b) t h = (k, inr (inl (h t)))
+    from-backward Left t h = tt
+
+    pub from-both : (r : Step) → typeIn ws ≡ 0x300 → ByBoth p column forward backward ws r → ByInter p column forward backward ws before r
+    from-both (Kept f b) t h = (k, inr (inr (h t)))
+    from-both Left t h = tt
+
+  pub from-inter : (due : ℕ) (r : Step) → wordAt ws 0 ≡ macroblockHeader → AtWord (wordAt ws 2) column (p .position .row)
+      → FlagsKept (wordAt ws 4) due (eqb (column + 1) (p .picture .grid .columns)) → ByInter p column forward backward ws before r
+      → StepFrom p column forward backward ws due before r
+  from-inter due (Kept f b) h w k i = record { header = h; position = w; flags = k; coded = inr i }
+  from-inter due Left h w k i = tt
+
+pub flags-at : {four four′ due : ℕ} {last last′ : Bool} → FlagsKept four due last → four ≡ four′ → last ≡ last′ → FlagsKept four′ due last′
+flags-at {four} {four′} {due} k e f = subst₂ (λ (x : ℕ) (y : Bool). FlagsKept x due y) e f k
+
+pub at-word : {two two′ column row : ℕ} → AtWord two column row → two ≡ two′ → AtWord two′ column row
+at-word {two} {two′} {column} {row} h e = subst (λ (x : ℕ). AtWord x column row) e h

@@ -1,0 +1,18 @@
+use borrow.Author.Needs.{needs}
+use Rattle.rows_code.proofs.after.extents_next.Statement.{statement}
+use Rattle.rows_code.proofs.after.extents_next.Tie as tie
+
+reach-of-requires : tie.Need-reach-of-requires
+reach-of-requires c κs = search needs
+
+join-requires : tie.Need-join-requires
+join-requires c κs = search needs
+
+join-requires-2 : tie.Need-join-requires-2
+join-requires-2 c κs = search needs
+
+returns : tie.Need-returns
+returns c = simp (c .before .join .ensures, c .join2 .ensures, c .before .before .reach-of .ensures)
+
+pub extents-next-spec : {M : Type 1} → statement M
+extents-next-spec = tie.close (tie.spec reach-of-requires join-requires join-requires-2 returns)

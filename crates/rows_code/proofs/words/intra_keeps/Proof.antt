@@ -1,0 +1,51 @@
+use mathlib.Core.Logic.{inl, inr}
+use mathlib.Core.Path.{refl}
+use Rattle.answers.proofs.Judging.{no, kept}
+use borrow.Author.Needs.{needs}
+use Rattle.rows_code.proofs.words.intra_keeps.Statement.{statement}
+use Rattle.rows_code.proofs.words.intra_keeps.Tie as tie
+
+word-at-requires : tie.Need-word-at-requires
+word-at-requires c κs = search needs
+
+word-at-requires-2 : tie.Need-word-at-requires-2
+word-at-requires-2 c κs = search needs
+
+with-bits-requires : tie.Need-with-bits-requires
+with-bits-requires c κs = search needs
+
+returns : tie.Need-returns
+returns c = λ e. absurd (no e)
+
+zero-words-requires : tie.Need-zero-words-requires
+zero-words-requires c κs = search needs
+
+returns-2 : tie.Need-returns-2
+returns-2 c = λ e. absurd (no e)
+
+returns-3 : tie.Need-returns-3
+returns-3 c = λ e. record { pattern = search needs; zeros = c .before .before .zero-words .ensures (kept refl (c .before .if2 .left)); conversion = inl (search needs) }
+
+bits-requires : tie.Need-bits-requires
+bits-requires c κs = search needs
+
+returns-4 : tie.Need-returns-4
+returns-4 c = λ e. absurd (no e)
+
+returns-5 : tie.Need-returns-5
+returns-5 c = λ e. record { pattern = search needs; zeros = c .before .before .before .before .zero-words .ensures (kept refl (c .before .before .before .if2 .left)); conversion = inr (search needs) }
+
+pub intra-keeps-spec : {M : Type 1} → statement M
+intra-keeps-spec =
+    tie.close
+    (tie.spec
+    word-at-requires
+    word-at-requires-2
+    with-bits-requires
+    returns
+    zero-words-requires
+    returns-2
+    returns-3
+    bits-requires
+    returns-4
+    returns-5)

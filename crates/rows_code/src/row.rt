@@ -1,0 +1,130 @@
+// A row of macroblocks.
+use crate::after;
+use crate::stepping;
+use prediction::Extent;
+use progress::Progress;
+use rows::Step;
+use rows::Taken;
+ghost use mathlib.Core.Path.{_≡_};
+ghost use Prim.Native.Nat.{_*_, _-_, _≤_, _<_};
+ghost use lib.ListN.{length};
+ghost use Rattle.rows.specs.Rows.{TakenFrom, AfterRow, OpenRow};
+ghost use Rattle.rows.specs.Words.{dueBits};
+
+// The bound bits of word 4 of a macroblock: whether a slice and a group begin with it.
+fn due_bits(slice: bool, group: bool) -> u32
+    ensures { λ r. ⌜ r ≡ dueBits slice group ⌝ }
+{
+    if slice {
+        if group {
+            return 0x4100_0000;
+        }
+        return 0x4000_0000;
+    }
+    if group {
+        return 0x0100_0000;
+    }
+    0
+}
+
+// The column behind the last of which a whole command can stand in so many words.
+fn limit_of(words: usize, first: u16, columns: u16) -> u16
+    requires { ⌜ first < columns ⌝ }
+    ensures { λ r. ⌜ (first ≤ r) × (r ≤ columns) × (9 * (r - first) ≤ words) ⌝ }
+{
+    let whole = words / 9;
+    let left = columns - first;
+    if whole < left as usize {
+        return first + whole as u16;
+    }
+    columns
+}
+
+// What the commands before word `at` come to, of which the last stands before this column.
+fn taken(
+    progress: Progress,
+    column: u16,
+    at: usize,
+    forward: Extent,
+    backward: Extent,
+    words: &[u32],
+) -> Taken
+    requires { ⌜ (at ≤ length (now words)) × ((1 ≤ at → (9 ≤ at) × (1 ≤ column)) × (progress .position .row < progress .picture .grid .rows)) ⌝ }
+    ensures { λ r. ⌜ AfterRow progress column at forward backward (now (words .entry)) r ⌝ }
+{
+    if at == 0 {
+        return Taken { progress, used: 0 };
+    }
+    let start = at - 9;
+    let last = column - 1;
+    let next = after::after_row(progress, last, forward, backward, &words[start..at]);
+    Taken {
+        progress: next,
+        used: at,
+    }
+}
+
+// The commands of a row that is open.
+fn take_row(progress: Progress, words: &[u32]) -> Taken
+    requires { ⌜ OpenRow progress ⌝ }
+    ensures { λ r. ⌜ TakenFrom progress (now (words .entry)) r ⌝ }
+{
+    let picture = progress.picture;
+    let lines = stepping::lines_of(picture);
+    let mut column = progress.position.column;
+    let limit = limit_of(words.len(), column, picture.grid.columns);
+    let mut due = due_bits(!progress.stage.in_slice, progress.stage.group_start);
+    let mut forward = progress.extents.forward;
+    let mut backward = progress.extents.backward;
+    let mut was = 0;
+    let mut at = 0;
+    while column < limit {
+        let end = at + 9;
+        let four = words[at + 4];
+        let step = stepping::judge_next(
+            progress,
+            lines,
+            column,
+            due,
+            forward,
+            backward,
+            &words[was..at],
+            &words[at..end],
+        );
+        let Step::Kept(f, b) = step else {
+            return taken(progress, column, at, forward, backward, words);
+        };
+        forward = f;
+        backward = b;
+        column += 1;
+        was = at;
+        at = end;
+        if fields_code::bits(four, 26, 26) != 0 {
+            return taken(progress, column, at, forward, backward, words);
+        }
+        due = due_bits(fields_code::is_set(four, 31), false);
+    }
+    taken(progress, column, at, forward, backward, words)
+}
+
+// Takes MACROBLOCK commands that stand one behind the other, up to the end of the row or of the group, as far as they keep their
+// rules. How many are taken is left to this function: none may be, and none are where a block's highest byte can be a luma byte.
+pub fn judge_row(progress: Progress, words: &[u32]) -> Taken
+    ensures { λ r. ⌜ TakenFrom progress (now (words .entry)) r ⌝ }
+{
+    let grid = progress.picture.grid;
+    let position = progress.position;
+    if !progress.stage.in_group {
+        return Taken { progress, used: 0 };
+    }
+    if grid.rows <= position.row {
+        return Taken { progress, used: 0 };
+    }
+    if grid.columns <= position.column {
+        return Taken { progress, used: 0 };
+    }
+    if !prediction_code::chroma_highest(progress.frame.surface, grid.rows) {
+        return Taken { progress, used: 0 };
+    }
+    take_row(progress, words)
+}

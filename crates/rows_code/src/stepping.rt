@@ -1,0 +1,237 @@
+// One MACROBLOCK command of a row.
+use crate::words;
+use picture::Picture;
+use prediction::Extent;
+use prediction_code::extents;
+use progress::Progress;
+use rows::Lines;
+use rows::Step;
+ghost use mathlib.Core.Path.{_≡_};
+ghost use Prim.Native.Nat.{_+_};
+ghost use lib.Dec.{eqb};
+ghost use Rattle.rows.specs.Words.{lowHalf};
+ghost use Rattle.headers.specs.Words.{wordAt};
+ghost use Rattle.rows.specs.Steps.{linesOf, isPredicted, AtWord, ByForward, ByBackward, ByBoth, ByInter, StepFrom};
+
+// The lines of a picture.
+pub(crate) fn lines_of(picture: Picture) -> Lines
+    ensures { λ r. ⌜ r ≡ linesOf picture ⌝ }
+{
+    let columns = picture.grid.columns;
+    let rows = picture.grid.rows;
+    let forward_x = prediction_code::line_of(columns, picture.forward.x);
+    let forward_y = prediction_code::line_of(rows, picture.forward.y);
+    let backward_x = prediction_code::line_of(columns, picture.backward.x);
+    let backward_y = prediction_code::line_of(rows, picture.backward.y);
+    Lines {
+        forward_x,
+        forward_y,
+        backward_x,
+        backward_y,
+    }
+}
+
+// Whether a picture of this type has macroblocks that are predicted.
+fn is_predicted(coding: u8) -> bool
+    ensures { λ r. ⌜ r ≡ isPredicted coding ⌝ }
+{
+    (coding == 2) | (coding == 3)
+}
+
+// A macroblock that is predicted forward only.
+fn judge_forward(
+    progress: Progress,
+    lines: Lines,
+    column: u16,
+    forward: Extent,
+    backward: Extent,
+    words: &[u32],
+) -> Step
+    requires { ⌜ lines ≡ linesOf (progress .picture) ⌝ }
+    ensures { λ r. ⌜ ByForward progress column forward backward (now (words .entry)) r ⌝ }
+{
+    let coding = progress.picture.coding;
+    let surface = progress.frame.surface;
+    let row = progress.position.row;
+    let five = headers_code::word_at(words, 5);
+    let x = lines.forward_x;
+    let y = lines.forward_y;
+    if !is_predicted(coding) {
+        return Step::Left;
+    }
+    if five != headers_code::word_at(words, 6) {
+        return Step::Left;
+    }
+    if !prediction_code::vector_in_lines(x, y, column, row, five) {
+        return Step::Left;
+    }
+    let next = extents::join(
+        forward,
+        prediction_code::reach_of(surface, column, row, five),
+    );
+    Step::Kept(next, backward)
+}
+
+// A macroblock that is predicted backward only.
+fn judge_backward(
+    progress: Progress,
+    lines: Lines,
+    column: u16,
+    forward: Extent,
+    backward: Extent,
+    words: &[u32],
+) -> Step
+    requires { ⌜ lines ≡ linesOf (progress .picture) ⌝ }
+    ensures { λ r. ⌜ ByBackward progress column forward backward (now (words .entry)) r ⌝ }
+{
+    let coding = progress.picture.coding;
+    let surface = progress.frame.surface;
+    let row = progress.position.row;
+    let six = headers_code::word_at(words, 6);
+    let x = lines.backward_x;
+    let y = lines.backward_y;
+    if coding != 3 {
+        return Step::Left;
+    }
+    if headers_code::word_at(words, 5) != six {
+        return Step::Left;
+    }
+    if !prediction_code::vector_in_lines(x, y, column, row, six) {
+        return Step::Left;
+    }
+    let next = extents::join(
+        backward,
+        prediction_code::reach_of(surface, column, row, six),
+    );
+    Step::Kept(forward, next)
+}
+
+// A macroblock that is predicted from both references.
+fn judge_both(
+    progress: Progress,
+    lines: Lines,
+    column: u16,
+    forward: Extent,
+    backward: Extent,
+    words: &[u32],
+) -> Step
+    requires { ⌜ lines ≡ linesOf (progress .picture) ⌝ }
+    ensures { λ r. ⌜ ByBoth progress column forward backward (now (words .entry)) r ⌝ }
+{
+    let coding = progress.picture.coding;
+    let surface = progress.frame.surface;
+    let row = progress.position.row;
+    let five = headers_code::word_at(words, 5);
+    let six = headers_code::word_at(words, 6);
+    let x = lines.forward_x;
+    let y = lines.forward_y;
+    let back_x = lines.backward_x;
+    let back_y = lines.backward_y;
+    if coding != 3 {
+        return Step::Left;
+    }
+    if !prediction_code::vector_in_lines(x, y, column, row, five) {
+        return Step::Left;
+    }
+    if !prediction_code::vector_in_lines(back_x, back_y, column, row, six) {
+        return Step::Left;
+    }
+    let first = extents::join(
+        forward,
+        prediction_code::reach_of(surface, column, row, five),
+    );
+    let second = extents::join(
+        backward,
+        prediction_code::reach_of(surface, column, row, six),
+    );
+    Step::Kept(first, second)
+}
+
+// An inter macroblock, whose word 1 has this lower half.
+fn judge_inter(
+    progress: Progress,
+    lines: Lines,
+    column: u16,
+    forward: Extent,
+    backward: Extent,
+    low: u32,
+    before: &[u32],
+    words: &[u32],
+) -> Step
+    requires { ⌜ (lines ≡ linesOf (progress .picture)) × (low ≡ lowHalf (wordAt (now words) 1)) ⌝ }
+    ensures { λ r. ⌜ ByInter progress column forward backward (now (words .entry)) (now (before .entry)) r ⌝ }
+{
+    let coding = progress.picture.coding;
+    if !words::inter_keeps(coding, before, words) {
+        return Step::Left;
+    }
+    let kind = fields_code::with_bits(low, 2, 2, 0);
+    if kind == 0x100 {
+        return judge_forward(progress, lines, column, forward, backward, words);
+    }
+    if kind == 0x200 {
+        return judge_backward(progress, lines, column, forward, backward, words);
+    }
+    if kind == 0x300 {
+        return judge_both(progress, lines, column, forward, backward, words);
+    }
+    Step::Left
+}
+
+// Word 2 of a macroblock at a column and a row.
+fn place_word(column: u16, row: u16) -> u32
+    ensures { λ r. ⌜ AtWord r column row ⌝ }
+{
+    row as u32 * 65536 + column as u32
+}
+
+fn is_last(column: u16, columns: u16) -> bool
+    ensures { λ r. ⌜ r ≡ eqb (column + 1) columns ⌝ }
+{
+    column as u32 + 1 == columns as u32
+}
+
+// The command at a column of the progress's row. `due` are the bound bits of its word 4, `before` the command before it in the row.
+pub(crate) fn judge_next(
+    progress: Progress,
+    lines: Lines,
+    column: u16,
+    due: u32,
+    forward: Extent,
+    backward: Extent,
+    before: &[u32],
+    words: &[u32],
+) -> Step
+    requires { ⌜ lines ≡ linesOf (progress .picture) ⌝ }
+    ensures { λ r. ⌜ StepFrom progress column forward backward (now (words .entry)) due (now (before .entry)) r ⌝ }
+{
+    let coding = progress.picture.coding;
+    let here = place_word(column, progress.position.row);
+    let last = is_last(column, progress.picture.grid.columns);
+    if headers_code::word_at(words, 0) != headers::MACROBLOCK_HEADER {
+        return Step::Left;
+    }
+    if headers_code::word_at(words, 2) != here {
+        return Step::Left;
+    }
+    if !words::flags_keep(headers_code::word_at(words, 4), due, last) {
+        return Step::Left;
+    }
+    let low = fields_code::with_bits(headers_code::word_at(words, 1), 31, 16, 0);
+    if low != 0x3a00 {
+        return judge_inter(
+            progress,
+            lines,
+            column,
+            forward,
+            backward,
+            low,
+            before,
+            words,
+        );
+    }
+    if !words::intra_keeps(coding, words) {
+        return Step::Left;
+    }
+    Step::Kept(forward, backward)
+}

@@ -1,0 +1,23 @@
+use mathlib.Core.Path.{_∙_, ap₂}
+use Rattle.progress.specs.Progress.{concluded}
+use Rattle.sequence.specs.Judging.{judge, rulesOf, nextOf}
+use borrow.Author.Needs.{needs}
+use Rattle.sequence_code.proofs.judging.judge_end.Statement.{statement}
+use Rattle.sequence_code.proofs.judging.judge_end.Tie as tie
+
+sequence-fault-requires : tie.Need-sequence-fault-requires
+sequence-fault-requires c κs = search needs
+
+end-next-requires : tie.Need-end-next-requires
+end-next-requires c κs = search needs
+
+conclude-requires : tie.Need-conclude-requires
+conclude-requires c κs = search needs
+
+returns : tie.Need-returns
+unfolding judge rulesOf nextOf
+returns c = c .conclude .ensures ∙ ap₂ concluded (c .before .before .sequence-fault .ensures) (c .before .end-next .ensures)
+
+pub judge-end-spec : {M : Type 1} → statement M
+judge-end-spec =
+    tie.close (tie.spec sequence-fault-requires end-next-requires conclude-requires returns)
