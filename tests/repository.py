@@ -1,11 +1,13 @@
 #!/usr/bin/env python3
 """Checks what rt ci does not: run after it, from the repository's root, on what it left in target/.
 
-- Every public function of a library has an ensures and no requires, and two must-fail edits name it.
+- A crate with definitions declares no function, and a crate with functions no definition: two storeys.
+- Every public function of a library has an ensures and no requires, and two must-fail edits name it: of its code, or of a definition
+  below (guards: crate::function).
 - Every must-fail edit says what it guards and why, and was refused at a fact: not because the proof no longer fits the
   code. Where it names the law that refuses it, that law is among what failed.
 - Every name that docs/CLAIMS.md cites stands in the file that it cites, and every edit that it cites is there.
-- No law above `prediction` unfolds one of its definitions, worked numbers apart.
+- No law above `prediction` unfolds one of its definitions, worked numbers apart; its code may.
 - No function between a vector word and its components divides, takes a remainder or multiplies.
 - Nothing names a path of one machine.
 """
@@ -46,24 +48,40 @@ def edits(crate):
         yield file, fields
 
 
-def check_contracts():
-    count = 0
+def check_storeys():
+    """Types, definitions and laws stand below; functions, their proofs and the laws of their loops above."""
     for crate in libraries():
-        guarded = [fields.get('guards') for _, fields in edits(crate)]
-        names = []
-        for name, contract in public_functions(crate):
-            names.append(name)
-            count += 1
+        has_functions = any(re.search(r'^ *(?:pub |pub\(crate\) |extern "C" )*fn ', file.read_text(), re.M) for file in crate.glob('src/**/*.rt'))
+        if has_functions == (crate / 'specs').is_dir():
+            faults.append(f'{crate.name}: has functions beside its definitions, or neither')
+
+
+def guarded_function(crate, fields):
+    """crate::function of what an edit guards; an edit of the code names the function alone."""
+    name = fields.get('guards', '')
+    return name if '::' in name else f'{crate.name}::{name}'
+
+
+def check_contracts():
+    guarded = [guarded_function(crate, fields) for crate in libraries() for _, fields in edits(crate)]
+    names = set()
+    for crate in libraries():
+        for function, contract in public_functions(crate):
+            name = f'{crate.name}::{function}'
+            names.add(name)
             if 'requires' in contract:
-                faults.append(f'{crate.name}: pub fn {name} has a requires')
+                faults.append(f'{name} has a requires')
             if 'ensures' not in contract:
-                faults.append(f'{crate.name}: pub fn {name} says nothing of its answer')
+                faults.append(f'{name} says nothing of its answer')
             if guarded.count(name) < 2:
-                faults.append(f'{crate.name}: pub fn {name} has {guarded.count(name)} must-fail edits, not two')
+                faults.append(f'{name} has {guarded.count(name)} must-fail edits, not two')
+    for crate in libraries():
         for file, fields in edits(crate):
-            if 'why' not in fields or fields.get('guards') not in names:
+            if 'why' not in fields or guarded_function(crate, fields) not in names:
                 faults.append(f'{file.relative_to(root)}: says not which public function it guards, or not why')
-    return count
+            if (crate / 'specs').is_dir() and 'law' not in fields:
+                faults.append(f'{file.relative_to(root)}: makes a definition wrong and names no law that refuses it')
+    return len(names)
 
 
 # An edit that only makes a proof file unfit for the code shows nothing.
@@ -118,7 +136,7 @@ def check_unfolding():
     """Worked numbers compute; every other law above `prediction` cites what it promises."""
     count = 0
     for file in sorted(root.glob('crates/*/proofs/**/*.antt')):
-        if file.is_relative_to(root / 'crates' / 'prediction') or file.name in ('Worked.antt', 'Cases.antt'):
+        if file.relative_to(root / 'crates').parts[0] in ('prediction', 'prediction_code') or file.name in ('Worked.antt', 'Cases.antt'):
             continue
         count += 1
         text = file.read_text()
@@ -131,10 +149,10 @@ def check_unfolding():
 
 # Between a vector word and its two components: every function of a file, or those that are named.
 HALVES = {
-    'crates/fields/src/word.rt': None,
-    'crates/prediction/src/vectors.rt': None,
-    'crates/prediction/src/spans.rt': {'biased'},
-    'crates/prediction/src/lines.rt': {'x_of', 'y_of'},
+    'crates/fields_code/src/word.rt': None,
+    'crates/prediction_code/src/vectors.rt': None,
+    'crates/prediction_code/src/spans.rt': {'biased'},
+    'crates/prediction_code/src/lines.rt': {'x_of', 'y_of'},
 }
 
 
@@ -168,6 +186,7 @@ def check_paths():
     return len(files) - 1
 
 
+check_storeys()
 functions, refusals, claims, laws, halves, files = check_contracts(), check_refusals(), check_claims(), check_unfolding(), check_halves(), check_paths()
 if min(functions, refusals, claims, laws, halves, files) == 0:
     faults.append('nothing was checked: no public function, no refusal, no claim, no law or no file was found')
