@@ -6,6 +6,7 @@ use Prim.Native.Nat.{ℕ, _<_, _≤_}
 use native.Mathlib.Omega.{arith}
 use borrow.Author.Tests.{not-true, not-false, ltb-true, ltb-false, lt-ltb, le-ltb, eqb-true, eqb-false, eq-eqb, ne-eqb}
 use lib.Dec.{T, eqb, leb, ltb, leb→le}
+use Rattle.lists.proofs.Booleans.{no, both, either}
 use Rattle.answers.specs.Answers.{Rule, earlier, answerBy, judged}
 use Rattle.answers.specs.declared.Answer.{Answer}
 use Rattle.answers.specs.declared.Answer.the-variants.{Accepted, Refused}
@@ -13,9 +14,6 @@ use Rattle.answers.specs.declared.Answer.the-variants.{Accepted, Refused
 -- number m at place q is before n at p
 abbrev pub before : ℕ → ℕ → ℕ → ℕ → Bool
 before m q n p = ltb q p || (eqb q p && ltb m n)
-
-pub no : false ≡ true → ⊥
-no e = subst T (sym e) tt
 
 is-before : (m q n p : ℕ) → before m q n p ≡ true → (q ≤ p) × (q ≡ p → m < n)
 is-before m q n p e = by (ltb q p) (eqb q p) (ltb m n) refl refl refl e
@@ -113,10 +111,6 @@ after n p (r ∷ rs) = not (before (r .number) (r .place) n p) && after n p rs
 abbrev pub ascending : List Rule → Bool
 ascending [] = true
 ascending (r ∷ rs) = after (r .number) (r .place) rs && ascending rs
-
-both : (a b : Bool) → T (a && b) → T a × T b
-both true b t = (tt, t)
-both false b t = absurd t
 
 -- an answer that is not before n at p
 abbrev late : ℕ → ℕ → Answer → Bool
@@ -219,14 +213,10 @@ abbrev pub Within : ℕ → ℕ → Answer → Type 0
 Within m n Accepted = Unit {0}
 Within m n (Refused k p) = (1 ≤ k) × (k ≤ m) × (p ≤ n)
 
-within-either : (m n : ℕ) (t : Bool) (a b : Answer) → Within m n a → Within m n b → Within m n (cond t a b)
-within-either m n true a b x y = x
-within-either m n false a b x y = y
-
 within-earlier : (m n : ℕ) (a b : Answer) → Within m n a → Within m n b → Within m n (earlier a b)
 within-earlier m n Accepted b x y = y
 within-earlier m n (Refused j p) Accepted x y = x
-within-earlier m n (Refused j p) (Refused k q) x y = within-either m n (before k q j p) (Refused k q) (Refused j p) y x
+within-earlier m n (Refused j p) (Refused k q) x y = either (Within m n) (before k q j p) (Refused k q) (Refused j p) y x
 
 within-judged : (m n : ℕ) (rs : List Rule) → T (within m n rs) → Within m n (judged rs)
 within-judged m n [] t = tt
@@ -235,7 +225,7 @@ within-judged m n (r ∷ rs) t =
     let k = both (leb 1 (r .number)) (leb (r .number) m) (h .0) in
     let p = both (leb (r .place) n) (within m n rs) (h .1) in
     within-earlier m n (answerBy r) (judged rs)
-    (within-either m n (r .holds) Accepted (Refused (r .number) (r .place)) tt (leb→le 1 (r .number) (k .0), leb→le (r .number) m (k .1), leb→le (r .place) n (p .0)))
+    (either (Within m n) (r .holds) Accepted (Refused (r .number) (r .place)) tt (leb→le 1 (r .number) (k .0), leb→le (r .number) m (k .1), leb→le (r .place) n (p .0)))
     (within-judged m n rs (p .1))
 
 pub judged-within : (m n : ℕ) (rs : List Rule) {k p : ℕ} → T (within m n rs) → judged rs ≡ Refused k p → (1 ≤ k) × (k ≤ m) × (p ≤ n)

@@ -6,10 +6,10 @@ use Prim.Native.Nat.{ℕ, zero, suc, _+_, _*_, _/_, _%_, _≤_, _<_}
 use native.Mathlib.Nat.{add-zero, zero-add}
 use native.Mathlib.Omega.{arith}
 use lib.ListN.{length, getD}
+use Rattle.lists.proofs.Booleans.{no}
 use Rattle.fields.specs.Word.{flag}
 use Rattle.answers.specs.Answers.{judged}
 use Rattle.answers.specs.declared.Answer.the-variants.{Accepted}
-use Rattle.answers.proofs.Judging.{no}
 use Rattle.headers.specs.Headers.{begins}
 use Rattle.macroblock.specs.Macroblocks.{macroblockOf}
 use Rattle.headers.specs.declared.Header.{Header}

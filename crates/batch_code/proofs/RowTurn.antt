@@ -5,8 +5,8 @@ use mathlib.Core.Path.{_≡_, refl, sym, _∙_, ap, ap₂}
 use Prim.Native.Nat.{ℕ, _+_, _-_, _≤_}
 use native.Mathlib.Nat.{add-zero}
 use native.Mathlib.Omega.{arith}
-use lib.ListN.{length, take, drop, length-append, length-drop, take-append-drop, List·getD-append}
-use lib.Seq.{length-take-le, take-all, take-at, drop-at, drop-drop}
+use lib.ListN.{length, drop, length-append, length-drop, take-append-drop, List·getD-append}
+use lib.Seq.{length-take-le, take-at, drop-at, drop-drop}
 use Rattle.answers.specs.Answers.{judged}
 use Rattle.answers.specs.declared.Answer.{Answer}
 use Rattle.answers.specs.declared.Answer.the-variants.{Accepted}
@@ -57,10 +57,6 @@ run at p (c ∷ cs) q ws e l f =
     ∙ one at p c (flatten cs ++ ws) e (omega arith) nine (f .1) (f .2)
     ∙ run (at + 9) (macroblockNext p c) cs q ws (advances p c .ended-stays ∙ e) (omega arith) (f .3)
     ∙ ap (λ (k : ℕ). foldl step (going k q []) ws) sum
-
--- the part of a list from a place on
-pub part-rest : (at : ℕ) (ws : List ℕ) → take (length ws - at) (drop at ws) ≡ drop at ws
-part-rest at ws = let left : length (drop at ws) ≡ length ws - at = length-drop at ws in take-all (length ws - at) (drop at ws) (omega arith)
 
 -- a run of them stands there
 pub turn-row : (base at : ℕ) (p : Progress) (ws : List ℕ) (r : Taken) → p .stage .ended ≡ false → base + length ws ≤ limit → at ≤ length ws

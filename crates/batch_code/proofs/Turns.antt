@@ -102,7 +102,3 @@ capped-full base p m ws p' used f l e =
     (ap (foldl step (going base p [])) (sym (take-append-drop m ws)) ∙ foldl-append step (going base p []) (take m ws) (drop m ws)
     ∙ ap (λ (t : Walk). foldl step t (drop m ws)) (sym e)
     ∙ full (base + used) p' (drop used (take m ws)) (drop m ws) (omega arith) (omega arith))
-
--- the part of a list from 0
-pub part-zero : (m : ℕ) (ws : List ℕ) → take (m - 0) (drop 0 ws) ≡ take m ws
-part-zero m ws = let e : m - 0 ≡ m = omega arith in ap (λ (k : ℕ). take k ws) e

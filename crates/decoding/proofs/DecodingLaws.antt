@@ -6,8 +6,8 @@ use Prim.Native.Nat.{ℕ, _*_, _≤_, _<_}
 use native.Mathlib.Omega.{arith}
 use borrow.Author.Tests.{ltb-false}
 use lib.Dec.{ltb}
-use lib.ListN.{length, getD, take, drop, replicate, length-append, length-drop}
-use lib.Seq.{drop-at}
+use lib.ListN.{length, getD, take, drop, replicate}
+use Rattle.lists.proofs.Slices.{piece-at, pieces-length, front-length, front-beyond}
 use Rattle.answers.specs.declared.Answer.the-variants as alone
 use Rattle.macroblock.specs.Macroblocks.{macroblockOf}
 use Rattle.progress.specs.declared.Extents.{Extents}
@@ -26,7 +26,6 @@ use Rattle.batch.proofs.Numbers.{accepted-by-0}
 use Rattle.batch.proofs.ReadAlone.{Alone, macroblocks-alone, alone-at}
 use Rattle.batch.proofs.Runs.{gone-through}
 use Rattle.decoding.specs.Logs.{recordAlone, logOf, logLength, roomed, decoded, logAfter, decodedLog}
-use Rattle.decoding.proofs.LogLaws.{pieces-length, piece-at}
 use Rattle.decoding.proofs.Outcomes.{has-ended}
 use Rattle.decoding.proofs.RoomLaws.{not-passed, unwritten, not-accepted, lacking, roomy}
 
@@ -42,16 +41,6 @@ pub record Decoded (ws before after : List ℕ) : Type 0 where
       × (take recordLength (drop (recordLength * k) after) ≡ readRoom (getD (macroblocksIn (commandsOf ws)) k []) (replicate recordLength 0))
   -- "bytes beyond stay"
   pub beyond : drop (logLength (pictureIn ws .grid)) after ≡ drop (logLength (pictureIn ws .grid)) before
-
--- A new front, in place of as many elements: the length stays, and so does what is beyond.
-front-length : (new before : List ℕ) → length new ≤ length before → length (new ++ drop (length new) before) ≡ length before
-front-length new before l =
-    let all = length-append new (drop (length new) before) in
-    let rest = length-drop (length new) before in
-    omega arith
-
-front-beyond : (new before : List ℕ) (n : ℕ) → length new ≡ n → drop n (new ++ drop (length new) before) ≡ drop n before
-front-beyond new before n e = drop-at new (drop (length new) before) n e ∙ ap (λ (i : ℕ). drop i before) e
 
 -- What a decoded batch that passes says of the check and of the room.
 module _ (needed : ℕ) (log : List ℕ) where

@@ -1,55 +1,29 @@
 -- Records in their places of a log.
 use mathlib.Core.Bool.{Bool, true, false, cond}
 use mathlib.Core.List.{List, [], _∷_, _++_, append-assoc, append-nil, map, flatten}
-use mathlib.Core.Path.{_≡_, refl, sym, _∙_, ap, ap₂}
-use Prim.Native.Nat.{ℕ, zero, suc, _+_, _*_, _-_, _≤_, _<_}
-use native.Mathlib.Nat.{add-zero, mul-zero, mul-suc}
+use mathlib.Core.Path.{_≡_, refl, sym, _∙_, ap}
+use Prim.Native.Nat.{ℕ, suc, _+_, _*_, _-_, _≤_}
+use native.Mathlib.Nat.{add-zero}
 use native.Mathlib.Omega.{arith}
-use lib.ListN.{length, getD, take, drop, length-append, length-drop, take-append-drop}
+use lib.ListN.{length, take, drop, length-append, length-drop, take-append-drop}
 use lib.Seq.{length-take-le, take-all, take-at, drop-at, drop-drop, drop-length}
 use borrow.Author.Tests.{le-ltb}
 use borrow.Rule.Slice.PartMut.{midOf, putMid, post-is}
+use Rattle.answers.specs.Lending.{lentAfter, roomFor}
+use Rattle.lists.proofs.Slices.{pieces-length}
+use Rattle.lists.proofs.Booleans.{no}
 use Rattle.fields.specs.Word.{flag}
 use Rattle.macroblock.specs.Macroblocks.{macroblockOf}
 use Rattle.macroblock.specs.declared.Macroblock.{Macroblock}
-use Rattle.answers.proofs.Judging.{no}
 use Rattle.headers.specs.Headers.{begins}
 use Rattle.headers.specs.declared.Header.{Header}
 use Rattle.headers.specs.declared.Opcode.the-variants as opcodes
 use Rattle.records.specs.Layout.{recordLength}
-use Rattle.records.specs.Alone.{roomFor, lentAfter}
 use Rattle.records.specs.Records.{recordOf}
 use Rattle.records.proofs.RoundTrips.{record-length}
 use Rattle.batch.specs.Commands.{commandsOf, macroblocksIn}
 use Rattle.decoding.specs.Logs.{recordAlone, logOf}
 use Rattle.batch.proofs.CutLaws.{left, Stands}
-
--- Lists of n elements, one behind the other: how long they are together, and the k-th of them.
-module _ {A : Type 0} (piece : A → List ℕ) (n : ℕ) (size : (a : A) → length (piece a) ≡ n) where
-  pub pieces-length : (xs : List A) → length (flatten (map piece xs)) ≡ n * length xs
-  unfolding flatten
-  pieces-length [] = sym (mul-zero n)
-  pieces-length (x ∷ xs) =
-      let one = size x in
-      let more = pieces-length xs in
-      let all = length-append (piece x) (flatten (map piece xs)) in
-      let next = mul-suc n (length xs) in
-      omega arith
-
-  pub piece-at : (xs : List A) (rest : List ℕ) (d : A) (k : ℕ) → k < length xs → take n (drop (n * k) (flatten (map piece xs) ++ rest)) ≡ piece (getD xs k d)
-  unfolding flatten
-  piece-at [] rest d k l = absurd (omega arith)
-  piece-at (x ∷ xs) rest d zero l =
-      rw (mul-zero n, append-assoc (piece x) (flatten (map piece xs)) rest)
-      (take-at (piece x) (flatten (map piece xs) ++ rest) n (size x))
-  piece-at (x ∷ xs) rest d (suc k) l =
-      let others = flatten (map piece xs) ++ rest in
-      let place : n * suc k ≡ n + n * k = omega (arith, mul-suc n k) in
-      let behind : drop (n * suc k) ((piece x ++ flatten (map piece xs)) ++ rest) ≡ drop (n * k) others =
-      ap₂ (λ (i : ℕ) (ys : List ℕ). drop i ys) place (append-assoc (piece x) (flatten (map piece xs)) rest)
-      ∙ sym (drop-drop (n * k) n (piece x ++ others))
-      ∙ ap (drop (n * k)) (drop-at (piece x) others n (size x)) in
-      ap (take n) behind ∙ piece-at xs rest d k (omega arith)
 
 -- The records of macroblocks, one behind the other.
 abbrev pub recordsOf : List (List ℕ) → List ℕ

@@ -1,14 +1,14 @@
 -- The laws of `bits` and `withBits`, over position and width.
 use mathlib.Core.Path.{_≡_, refl, sym, ap, ap₂, subst, subst₂, _∙_}
-use mathlib.Core.Bool.{Bool, true, false, _||_}
+use mathlib.Core.Bool.{Bool, true, false, _||_, not}
 use mathlib.Core.Logic.{_⊎_, inl, inr}
 use Prim.Native.Nat.{ℕ, _+_, _*_, _-_, _/_, _%_, _^_, _≤_, _<_}
 use native.Mathlib.Nat.{add-assoc, add-zero, zero-add, add-mul, mul-assoc, zero-mul, mod-one, mod-lt, mod-eq-of-lt, lt-of-lt-of-le, eq-zero-or-pos}
 use native.Mathlib.Omega.{arith}
 use borrow.Author.Tests.{ltb-true}
-use lib.Dec.{T, ltb}
+use lib.Dec.{T, ltb, eqb}
 use lib.Pow.{pow-pos, pow-mono, pow-add, shr-shr, shr-lt, high, low, split, field, mod-mod-pow, mod-pow-add}
-use Rattle.fields.specs.Word.{width, bits, withBits, halvesOf, wordOfHalves}
+use Rattle.fields.specs.Word.{width, bits, withBits, halvesOf, wordOfHalves, isSet, flag}
 use Rattle.fields.specs.declared.Halves.{Halves}
 use Rattle.fields.proofs.Masks.{joined-lt, nothing-above}
 
@@ -158,3 +158,12 @@ halves-back h hl hh =
 
 pub word-back : (w : ℕ) → w < 2 ^ 32 → wordOfHalves (halvesOf w) ≡ w
 word-back w h = on-top (bits w 15 0) 31 16 (bits w 31 16) (omega arith) (omega arith) ∙ omega arith
+
+-- a flag in its bit, and a flag as a number that is not zero
+pub flag-back : (b : Bool) → isSet (flag b % 2) ≡ b
+flag-back true = refl
+flag-back false = refl
+
+pub flag-nonzero : (b : Bool) → not (eqb (flag b) 0) ≡ b
+flag-nonzero true = refl
+flag-nonzero false = refl

@@ -7,6 +7,7 @@ use native.Mathlib.Nat.{div-eq-of-lt, mod-eq-of-lt, mod-lt, mod-one}
 use native.Mathlib.Omega.{arith}
 use lib.Dec.{T, eqb, leb, ltb, eqb→eq, leb→le, ltb→lt}
 use lib.Pow.{pow-pos}
+use Rattle.lists.proofs.Booleans.{both}
 use Rattle.fields.specs.Word.{Field, width, bits, withBits, packed}
 use Rattle.fields.proofs.Fields.{packed-back, field-kept, with-bits-lt, agree-up, same-below-32}
 
@@ -19,10 +20,6 @@ valueIn (f ∷ fs) h l = cond (eqb h (f .hi) && eqb l (f .lo)) (f .value % 2 ^ w
 abbrev pub clear : List Field → ℕ → ℕ → Bool
 clear [] h l = true
 clear (f ∷ fs) h l = cond (eqb h (f .hi) && eqb l (f .lo)) true ((ltb h (f .lo) || ltb (f .hi) l) && clear fs h l)
-
-both : (a b : Bool) → T (a && b) → T a × T b
-both true b t = (tt, t)
-both false b t = absurd t
 
 is-true : (a : Bool) → a ≡ true → T a
 is-true a e = subst T (sym e) tt

@@ -22,6 +22,10 @@ withBits word hi lo value =
 abbrev pub hasBits : ℕ → ℕ → ℕ → ℕ → Bool
 hasBits word hi lo value = eqb (bits word hi lo) value
 
+-- Bits hi:lo are zero, as it writes "5:0 zero".
+abbrev pub zeroBits : ℕ → ℕ → ℕ → Bool
+zeroBits word hi lo = hasBits word hi lo 0
+
 -- One bit as a flag, and a flag as a bit.
 abbrev pub isSet : ℕ → Bool
 isSet b = eqb b 1

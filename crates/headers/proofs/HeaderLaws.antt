@@ -9,6 +9,7 @@ use borrow.Author.Tests.{eqb-true}
 use lib.ListN.{getD, drop}
 use lib.Seq.{getD-drop}
 use lib.Dec.{T, eqb, leb, leb→le, eqb→eq}
+use Rattle.lists.proofs.Booleans.{both, either}
 use Rattle.headers.specs.Headers.{Row, macroblockHeader, table, lookUp, headerOf, wordsIn, begins}
 use Rattle.headers.specs.Words.{wordAt}
 use Rattle.headers.specs.declared.Header.{Header}
@@ -20,20 +21,12 @@ abbrev every : (Header → Bool) → List Row → Bool
 every f [] = f Unknown
 every f (r ∷ rs) = f (r .begins) && every f rs
 
-both : (a b : Bool) → T (a && b) → T a × T b
-both true b t = (tt, t)
-both false b t = absurd t
-
-either : (f : Header → Bool) (t : Bool) (a b : Header) → T (f a) → T (f b) → T (f (cond t a b))
-either f true a b p q = p
-either f false a b p q = q
-
 rows : (f : Header → Bool) (rs : List Row) (w : ℕ) → T (every f rs) → T (f (lookUp rs w))
 unfolding lookUp
 rows f [] w t = t
 rows f (r ∷ rs) w t =
     let h = both (f (r .begins)) (every f rs) t in
-    either f (eqb w (r .header)) (r .begins) (lookUp rs w) (h .0) (rows f rs w (h .1))
+    either (λ (x : Header). T (f x)) (eqb w (r .header)) (r .begins) (lookUp rs w) (h .0) (rows f rs w (h .1))
 
 every-header : (f : Header → Bool) (w : ℕ) → T (unfold table in every f table) → T (f (headerOf w))
 unfolding headerOf table

@@ -1,12 +1,13 @@
 -- What bytes come to, fed one by one: the lengths, whole words, and the bytes behind them.
 use mathlib.Core.Bool.{Bool, cond}
-use mathlib.Core.List.{List, [], _∷_, _++_, foldl, foldl-append, append-nil, append-assoc}
+use mathlib.Core.List.{List, [], _∷_, _++_, foldl, append-nil, append-assoc}
 use mathlib.Core.Path.{_≡_, refl, sym, _∙_, ap}
-use Prim.Native.Nat.{ℕ, suc, _+_, _%_, _≤_, _<_}
+use Prim.Native.Nat.{ℕ, _+_, _%_, _≤_, _<_}
 use native.Mathlib.Omega.{arith}
 use borrow.Author.Tests.{lt-ltb, le-ltb}
 use lib.Dec.{ltb}
-use lib.ListN.{length, take, drop, length-append, take-append-drop}
+use lib.ListN.{length, length-append}
+use Rattle.lists.proofs.Slices.{no-length}
 use Rattle.fields.specs.Bytes.{numberOf}
 use Rattle.batch.specs.Walk.{Walk, step, start}
 use Rattle.batch.specs.declared.Lengths.{Lengths}
@@ -90,15 +91,9 @@ words-fed l w (a ∷ b ∷ c ∷ d ∷ bs) =
     ap (λ (x : Input). foldl feed x bs) (word-completed l w [] (a ∷ b ∷ c ∷ d ∷ []) (omega arith) refl)
     ∙ words-fed l (step w (numberOf (a ∷ b ∷ c ∷ d ∷ []))) bs
 
-pub no-bytes : (bs : List ℕ) → length bs ≡ 0 → bs ≡ []
-no-bytes [] e = refl
-no-bytes (b ∷ bs) e = absurd (let h : suc (length bs) ≡ 0 = e in omega arith)
-
 -- Whole words alone.
 pub whole-fed : (l : Lengths) (w : Walk) (bs : List ℕ) → length bs % 4 ≡ 0 → foldl feed (body l w []) bs ≡ body l (foldl step w (wordsOf bs)) []
 whole-fed l w bs e =
-    words-fed l w bs ∙ ap (body l (foldl step w (wordsOf bs))) (no-bytes (restOf bs) (rest-length bs ∙ e))
+    words-fed l w bs ∙ ap (body l (foldl step w (wordsOf bs))) (no-length (restOf bs) (rest-length bs ∙ e))
 
 -- some bytes by the first m of them and the others
-pub split : (x : Input) (m : ℕ) (bs : List ℕ) → foldl feed x bs ≡ foldl feed (foldl feed x (take m bs)) (drop m bs)
-split x m bs = ap (foldl feed x) (sym (take-append-drop m bs)) ∙ foldl-append feed x (take m bs) (drop m bs)

@@ -1,6 +1,6 @@
 -- The line of an input in pieces is the line of all its bytes.
 use mathlib.Core.Bool.{Bool, true, false}
-use mathlib.Core.List.{List, [], _∷_, foldl, foldl-append, flatten}
+use mathlib.Core.List.{List, [], _++_, foldl, foldl-append, flatten}
 use mathlib.Core.Path.{_≡_, refl, sym, _∙_, ap}
 use Prim.Native.Nat.{ℕ, _+_}
 use native.Mathlib.Omega.{arith}
@@ -8,16 +8,18 @@ use borrow.Author.Tests.{ltb-true, ltb-false}
 use lib.Dec.{ltb}
 use lib.ListN.{length, take, drop}
 use lib.Seq.{length-take-le}
+use Rattle.lists.proofs.Stepping.{along-whole}
+use Rattle.lists.proofs.Slices.{split}
 use Rattle.progress.specs.Progress.{fresh}
 use Rattle.batch.specs.Reports.{finish, verdictOf, report}
 use Rattle.batch.specs.Walk.{Walk, going, stopped, step, start}
 use Rattle.batch.specs.declared.Lengths.{Lengths}
 use Rattle.batch.proofs.WalkLaws.{counted}
 use Rattle.input.specs.Line.{lengthsOf, wordsOf, leftOver, answerTo, outcomeOf, lineFor, lineOf}
-use Rattle.input.specs.Input.{Input, head, body, feed, wordsThrough, finished, inputIn, bytesIn, Along, InPieces}
+use Rattle.input.specs.Input.{Input, head, body, feed, wordsThrough, finished, inputIn, bytesIn, InputHanded, InPieces}
 use Rattle.input.specs.declared.Line.{Line}
 use Rattle.input.specs.declared.Stream.{Stream}
-use Rattle.input.proofs.Feeding.{lengths-gathered, lengths-completed, restOf, rest-length, words-fed, split}
+use Rattle.input.proofs.Feeding.{lengths-gathered, lengths-completed, restOf, rest-length, words-fed}
 
 -- the words that the check of some words has gone through, where it refuses nothing, are those words
 through : (k : ℕ) (l : Lengths) (ws : List ℕ)
@@ -53,18 +55,16 @@ all-fed bs = by (ltb (length bs) 32) refl
     by false e =
         let enough = ltb-false (length bs) 32 e in
         let len = length-take-le 32 bs (omega arith) in
-        ap finished (split (head []) 32 bs ∙ ap (λ (x : Input). foldl feed x (drop 32 bs)) (lengths-completed [] (take 32 bs) (omega arith) (omega arith)))
+        ap finished (split feed (head []) 32 bs ∙ ap (λ (x : Input). foldl feed x (drop 32 bs)) (lengths-completed [] (take 32 bs) (omega arith) (omega arith)))
         ∙ batch-fed (lengthsOf (take 32 bs)) (drop 32 bs)
         ∙ simp e
 
--- a state after a list of pieces stands for all their bytes
-along : (s : Stream) (pieces : List (List ℕ)) (r : Stream) → Along s pieces r → inputIn r ≡ foldl feed (inputIn s) (flatten pieces)
-unfolding flatten
-along s [] r e = ap inputIn (sym e)
-along s (piece ∷ pieces) r h =
-    along (h .0) pieces r (h .2)
-    ∙ ap (λ (x : Input). foldl feed x (flatten pieces)) (h .1)
-    ∙ sym (foldl-append feed (inputIn s) piece (flatten pieces))
+-- two pieces, one after the other, are one piece of both, and nothing changes without a piece
+handed-none : (s : Stream) → InputHanded s [] s
+handed-none s = refl
+
+handed-both : (s : Stream) (a : List ℕ) (t : Stream) (b : List ℕ) (r : Stream) → InputHanded s a t → InputHanded t b r → InputHanded s (a ++ b) r
+handed-both s a t b r h k = k ∙ ap (λ (x : Input). foldl feed x b) h ∙ sym (foldl-append feed (inputIn s) a b)
 
 -- For every list of pieces (the empty list and empty pieces among them), whatever states the functions returned on the way, the line is
 -- that of all bytes in order.
@@ -73,5 +73,5 @@ unfolding lineOf
 pieces-line pieces r h =
     let t = h .2 .0 in
     h .2 .2 .0
-    ∙ ap (λ (x : Input). lineFor (finished x)) (along (h .0) pieces t (h .2 .1) ∙ ap (λ (x : Input). foldl feed x (flatten pieces)) (h .1))
+    ∙ ap (λ (x : Input). lineFor (finished x)) (along-whole InputHanded handed-none handed-both (h .0) pieces t (h .2 .1) ∙ ap (λ (x : Input). foldl feed x (flatten pieces)) (h .1))
     ∙ ap lineFor (all-fed (flatten pieces))

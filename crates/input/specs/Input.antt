@@ -5,6 +5,7 @@ use mathlib.Core.List.{List, [], _∷_, _++_, foldl}
 use mathlib.Core.Path.{_≡_}
 use lib.Dec.{ltb}
 use lib.ListN.{length, take}
+use Rattle.lists.specs.Calls.{Along}
 use Rattle.fields.specs.Bytes.{numberOf}
 use Rattle.batch.specs.Reports.{finish}
 use Rattle.batch.specs.Walk.{Walk, going, stopped, step, start}
@@ -57,21 +58,15 @@ abbrev pub bytesIn : Line → List ℕ
 bytesIn r = take (r .len) (r .bytes)
 
 -- What a fresh input promises, what handing over a piece promises of the state that it returns, and what the answer promises.
-abbrev pub Begun : Stream → Type 0
-Begun r = inputIn r ≡ head []
+abbrev pub InputBegun : Stream → Type 0
+InputBegun r = inputIn r ≡ head []
 
-abbrev pub Handed : Stream → List ℕ → Stream → Type 0
-Handed s piece r = inputIn r ≡ foldl feed (inputIn s) piece
+abbrev pub InputHanded : Stream → List ℕ → Stream → Type 0
+InputHanded s piece r = inputIn r ≡ foldl feed (inputIn s) piece
 
-abbrev pub Answered : Stream → Line → Type 0
-Answered s r = (bytesIn r ≡ lineFor (finished (inputIn s))) × (r .len ≤ 256)
-
--- From state `s` to state `r` by a list of pieces: for the empty list they are the same; for a piece and more pieces, some state
--- meets what handing over that piece to `s` promises, and `r` comes from it by the others.
-abbrev pub Along : Stream → List (List ℕ) → Stream → Type 0
-Along s [] r = s ≡ r
-Along s (piece ∷ pieces) r = (t : Stream) × Handed s piece t × Along t pieces r
+abbrev pub InputAnswered : Stream → Line → Type 0
+InputAnswered s r = (bytesIn r ≡ lineFor (finished (inputIn s))) × (r .len ≤ 256)
 
 -- A line for a list of pieces: a state was handed over along it from a fresh one, and this is answered after it.
 abbrev pub InPieces : List (List ℕ) → Line → Type 0
-InPieces pieces r = (s : Stream) × Begun s × ((t : Stream) × Along s pieces t × Answered t r)
+InPieces pieces r = (s : Stream) × InputBegun s × ((t : Stream) × Along InputHanded s pieces t × InputAnswered t r)

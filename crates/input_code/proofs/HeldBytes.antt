@@ -7,6 +7,7 @@ use native.Mathlib.Omega.{arith}
 use borrow.Author.Tests.{lt-ltb, le-ltb}
 use lib.ListN.{length, take, length-append}
 use lib.Seq.{length-take-le}
+use Rattle.lists.proofs.Slices as slices
 use Rattle.parts.specs.States.{walkIn}
 use Rattle.input.specs.Input.{Input, head, body, feed, heldOf, inputIn}
 use Rattle.input.specs.declared.Stream.{Stream}
@@ -53,4 +54,4 @@ module _ (held need n : ℕ) (old piece r : List ℕ) (len : length r ≡ 32) (r
   start-length = let some' = some in held-length held old (take need piece) r len (omega arith) stored
 
   pub filled : take n r ≡ take held old ++ take need piece
-  filled = let some' = some in let e : n ≡ held + length (take need piece) = omega arith in ap (λ (k : ℕ). take k r) e ∙ stored
+  filled = slices.filled held need n old piece r enough size stored

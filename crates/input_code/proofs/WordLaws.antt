@@ -4,13 +4,14 @@ use mathlib.Core.Path.{_≡_, refl, sym, _∙_, ap}
 use Prim.Native.Nat.{ℕ, suc, _+_, _*_, _-_, _/_, _≤_, _<_}
 use native.Mathlib.Omega.{arith}
 use lib.ListN.{length, getD, take, drop, set, length-drop}
-use lib.Seq.{drop-cons, drop-drop, take-suc-set, append-snoc, length-take-le, take-all}
+use lib.Seq.{drop-cons, drop-drop, take-suc-set, append-snoc, length-take-le}
+use Rattle.lists.proofs.Slices.{split}
 use Rattle.fields.specs.Bytes.{numberOf, elements}
 use Rattle.batch.specs.Walk.{Walk, step}
 use Rattle.batch.specs.declared.Lengths.{Lengths}
 use Rattle.input.specs.Line.{wordsOf}
 use Rattle.input.specs.Input.{Input, body, feed}
-use Rattle.input.proofs.Feeding.{word-gathered, whole-fed, split}
+use Rattle.input.proofs.Feeding.{word-gathered, whole-fed}
 
 -- Eight bytes are four and four.
 pub eight-bytes : (xs : List ℕ) (i : ℕ) → numberOf (elements xs i 4) + numberOf (elements xs (i + 4) 4) * 4294967296 ≡ numberOf (elements xs i 8)
@@ -70,13 +71,9 @@ words-on l w piece at n end e h =
     let len = length-drop at piece in
     let some = length-take-le m rest (omega arith) in
     let all : at + m ≡ end = omega arith in
-    split (body l w []) m rest
+    split feed (body l w []) m rest
     ∙ ap (λ (x : Input). foldl feed x (drop m rest)) (whole-fed l w (take m rest) (omega arith))
     ∙ ap (foldl feed (body l (foldl step w (wordsOf (take m rest))) [])) (drop-drop m at piece ∙ ap (λ (k : ℕ). drop k piece) all)
-
--- The end of a piece, as it is lent.
-pub lent-rest : (at m : ℕ) (piece : List ℕ) → length piece ≡ m → take (m - at) (drop at piece) ≡ drop at piece
-lent-rest at m piece e = let len = length-drop at piece in take-all (m - at) (drop at piece) (omega arith)
 
 -- Fewer than four bytes are held.
 pub few-held : (l : Lengths) (w : Walk) (bs : List ℕ) → length bs < 4 → foldl feed (body l w []) bs ≡ body l w bs

@@ -5,7 +5,7 @@ use batch::Report;
 use input::Line;
 use input::Stream;
 ghost use mathlib.Core.Path.{_≡_};
-ghost use Rattle.input.specs.Input.{finished, inputIn, Answered};
+ghost use Rattle.input.specs.Input.{finished, inputIn, InputAnswered};
 
 // The answer to all bytes so far, taken as a whole input.
 fn outcome(stream: Stream) -> Report
@@ -29,7 +29,7 @@ fn outcome(stream: Stream) -> Report
 
 // The line for all bytes so far, taken as a whole input.
 pub fn answer(stream: Stream) -> Line
-    ensures { λ r. ⌜ Answered stream r ⌝ }
+    ensures { λ r. ⌜ InputAnswered stream r ⌝ }
 {
     printing::line_for(outcome(stream))
 }

@@ -11,11 +11,11 @@ ghost use mathlib.Core.List.{foldl};
 ghost use Prim.Native.Nat.{_<_};
 ghost use lib.ListN.{take};
 ghost use Rattle.parts.specs.States.{walkIn};
-ghost use Rattle.input.specs.Input.{body, feed, heldOf, inputIn, Begun, Handed};
+ghost use Rattle.input.specs.Input.{body, feed, heldOf, inputIn, InputBegun, InputHanded};
 
 // An input before its first byte.
 pub fn begin() -> Stream
-    ensures { λ r. ⌜ Begun r ⌝ }
+    ensures { λ r. ⌜ InputBegun r ⌝ }
 {
     let lengths = Lengths {
         source: 0,
@@ -36,7 +36,7 @@ pub fn begin() -> Stream
 // A piece behind the first bytes of the lengths.
 fn complete_lengths(stream: Stream, held: usize, piece: &[u8]) -> Stream
     requires { ⌜ (stream .begun ≡ false) × ((heldOf 32 stream ≡ take held (stream .bytes)) × (held < 32)) ⌝ }
-    ensures { λ r. ⌜ Handed stream (now (piece .entry)) r ⌝ }
+    ensures { λ r. ⌜ InputHanded stream (now (piece .entry)) r ⌝ }
 {
     let old = stream.bytes;
     let need = 32 - held;
@@ -71,7 +71,7 @@ fn complete_word(state: State, old: [u8; 32], held: usize, piece: &[u8]) -> Stre
 
 // The next piece, of any size.
 pub fn hand_over(stream: Stream, piece: &[u8]) -> Stream
-    ensures { λ r. ⌜ Handed stream (now (piece .entry)) r ⌝ }
+    ensures { λ r. ⌜ InputHanded stream (now (piece .entry)) r ⌝ }
 {
     if !stream.begun {
         let held = holding::held_bytes(stream, 32);

@@ -1,20 +1,16 @@
 -- A batch in parts through lent memory is answered as the whole batch.
-use mathlib.Core.List.{List, [], _∷_, flatten}
+use mathlib.Core.List.{List, flatten}
 use mathlib.Core.Path.{_≡_, refl, ap, _∙_}
 use Prim.Native.Nat.{ℕ}
+use Rattle.lists.proofs.Stepping.{along-view}
 use Rattle.batch.specs.Reports.{report}
 use Rattle.batch.specs.declared.Lengths.{Lengths}
-use Rattle.parts.specs.States.{Along}
+use Rattle.parts.specs.States.{Handed}
 use Rattle.parts.proofs.Parts.{parts-whole}
-use Rattle.interface.specs.Handing.{summaryIn, MemoryAlong, MemoryHandedOver}
+use Rattle.interface.specs.Handing.{summaryIn, MemoryHandedOver}
 use Rattle.memory.specs.Memory.{stateIn}
 use Rattle.interface.specs.Summaries.{summaryOf}
 use Rattle.interface.specs.declared.Summary.{Summary}
-
--- the states that the memories stand for
-states : (m : List ℕ) (parts : List (List ℕ)) (r : List ℕ) → MemoryAlong m parts r → Along (stateIn m) parts (stateIn r)
-states m [] r e = ap stateIn e
-states m (part ∷ parts) r h = (stateIn (h .0), h .1, states (h .0) parts r (h .2))
 
 -- Document 01's claim on lists of parts, of the exported functions: for all lengths, all lists of parts and every sequence of memories
 -- that meets their contracts, what is reported is the report of the whole batch.
@@ -22,4 +18,4 @@ pub memory-whole : (l : Lengths) (parts : List (List ℕ)) (m : List ℕ) (r : S
     → r ≡ summaryOf (report l (flatten parts))
 unfolding summaryIn
 memory-whole l parts m r h reported =
-    reported ∙ ap summaryOf (parts-whole l parts (stateIn m) _ (stateIn (h .0), h .1, states (h .0) parts m (h .2)) refl)
+    reported ∙ ap summaryOf (parts-whole l parts (stateIn m) _ (stateIn (h .0), h .1, along-view stateIn Handed (h .0) parts m (h .2)) refl)

@@ -1,8 +1,8 @@
 -- A check in parts whose state is in lent memory. The papers leave open what the words of that memory are, so each function promises of
 -- the memory what `parts` promises of the states that it stands for, before and after. No content is required.
 use Prim.Native.Nat.{ℕ}
-use mathlib.Core.List.{List, [], _∷_}
-use mathlib.Core.Path.{_≡_}
+use mathlib.Core.List.{List}
+use Rattle.lists.specs.Calls.{Along}
 use Rattle.batch.specs.Reports.{finish}
 use Rattle.batch.specs.declared.Lengths.{Lengths}
 use Rattle.parts.specs.States.{walkIn, Begun, Handed}
@@ -22,13 +22,7 @@ MemoryHanded m part r = Handed (stateIn m) part (stateIn r)
 unfoldable pub summaryIn : List ℕ → Summary
 summaryIn m = summaryOf (finish (stateIn m .lengths) (walkIn (stateIn m)))
 
--- From memory `m` to memory `r` by a list of parts: for the empty list they are the same; for a part and more parts, some memory meets
--- what handing over that part promises, and `r` comes from it by the others.
-abbrev pub MemoryAlong : List ℕ → List (List ℕ) → List ℕ → Type 0
-MemoryAlong m [] r = m ≡ r
-MemoryAlong m (part ∷ parts) r = (t : List ℕ) × MemoryHanded m part t × MemoryAlong t parts r
-
 -- Memory after a fresh check and a list of parts, whatever the functions left in it on the way. "Each handing over gets what the last
 -- one returned .. and nobody else writes that meanwhile."
 abbrev pub MemoryHandedOver : Lengths → List (List ℕ) → List ℕ → Type 0
-MemoryHandedOver l parts r = (m : List ℕ) × MemoryBegun l m × MemoryAlong m parts r
+MemoryHandedOver l parts r = (m : List ℕ) × MemoryBegun l m × Along MemoryHanded m parts r

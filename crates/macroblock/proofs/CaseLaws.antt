@@ -6,8 +6,9 @@ use mathlib.Core.Logic.{_⊎_, inl, inr}
 use Prim.Native.Nat.{ℕ, _%_, _^_, _<_, _≤_}
 use native.Mathlib.Omega.{arith}
 use borrow.Author.Tests.{eqb-true, eqb-false, leb-true}
-use lib.Dec.{T, eqb, leb}
+use lib.Dec.{eqb, leb}
 use lib.ListN.{length}
+use Rattle.lists.proofs.Booleans.{either, and-left, and-right}
 use Rattle.fields.specs.Bytes.{elements}
 use Rattle.fields.proofs.Elements.{elements-all}
 use Rattle.prediction.specs.Vectors.{vectorOf}
@@ -22,18 +23,6 @@ use Rattle.macroblock.specs.declared.Prediction.the-variants.{Forward, B
 use Rattle.macroblock.specs.declared.Case.{Case}
 use Rattle.macroblock.specs.declared.Case.the-variants.{Intra, Inter}
 use Rattle.macroblock.specs.declared.Motion.{Motion}
-
-pub and-left : (a b : Bool) → (a && b) ≡ true → a ≡ true
-and-left true b e = refl
-and-left false b e = e
-
-pub and-right : (a b : Bool) → (a && b) ≡ true → b ≡ true
-and-right true b e = e
-and-right false b e = absurd (subst T (sym e) tt)
-
-either : {A : Type 0} (P : A → Type 0) (t : Bool) (a b : A) → P a → P b → P (cond t a b)
-either P true a b p q = p
-either P false a b p q = q
 
 -- What holds of each of the four holds of any number.
 pub every-kind : {A : Type 0} (P : A → Type 0) (k : ℕ) (i f b t : A) → P i → P f → P b → P t → P (byKind k i f b t)

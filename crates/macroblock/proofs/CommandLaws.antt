@@ -8,7 +8,9 @@ use native.Mathlib.Omega.{arith}
 use borrow.Author.Tests.{eqb-true, eqb-false, leb-true, eq-eqb}
 use lib.Dec.{T, eqb, leb, eqb→eq}
 use lib.Pow.{pow-pos}
-use Rattle.fields.specs.Word.{Field, width, bits, packed, isSet, flag}
+use Rattle.fields.proofs.Fields.{flag-back}
+use Rattle.lists.proofs.Booleans.{and-left, and-right, both-true}
+use Rattle.fields.specs.Word.{Field, width, bits, packed, isSet, flag, zeroBits}
 use Rattle.fields.specs.Bytes.{elements}
 use Rattle.fields.proofs.Elements.{elements-all}
 use Rattle.fields.proofs.Packing.{valueIn, clear, piece, packed-field, packed-lt, packed-is, bits-cut}
@@ -17,26 +19,18 @@ use Rattle.macroblock.specs.Cases.{motion, motionOf, caseOf, vectorWords
 use Rattle.macroblock.specs.Legal.{Words, Command, Legal}
 use Rattle.headers.specs.Words.{wordAt}
 use Rattle.macroblock.specs.Macroblocks.{intraType, kindIn, typeOf, motionIn, flagsIn, macroblockOf, fields1, fields2, fields3, fields4, wordsOf}
-use Rattle.macroblock.specs.Rules.{keptBy, zeroBits, typePermitted, fixed1, fixed3, fixed4, fieldRules, vectorRules, copied, commandRules}
+use Rattle.macroblock.specs.Rules.{keptBy, typePermitted, fixed1, fixed3, fixed4, fieldRules, vectorRules, copied, commandRules}
 use Rattle.macroblock.specs.declared.Case.{Case}
 use Rattle.macroblock.specs.declared.Case.the-variants.{Intra, Inter}
 use Rattle.macroblock.specs.declared.Prediction.the-variants.{Forward, Backward, Both}
 use Rattle.macroblock.specs.declared.Kept.{Kept}
 use Rattle.macroblock.specs.declared.Macroblock.{Macroblock}
-use Rattle.macroblock.proofs.CaseLaws.{and-left, and-right, vectors-four, vectors-listed, vectors-words, case-fits, vectors-again, case-again, copies-again, type-back}
+use Rattle.macroblock.proofs.CaseLaws.{vectors-four, vectors-listed, vectors-words, case-fits, vectors-again, case-again, copies-again, type-back}
 use Rattle.macroblock.proofs.Congruence.{same-flags, same-macroblock}
 use Rattle.answers.proofs.Judging.{Hold, all-hold, none-broken, hold-both, hold-each, within}
 
--- a flag in its bit
-pub flag-back : (b : Bool) → isSet (flag b % 2) ≡ b
-flag-back true = refl
-flag-back false = refl
-
 same-four : {a b c d a′ b′ c′ d′ : ℕ} → a ≡ a′ → b ≡ b′ → c ≡ c′ → d ≡ d′ → a ∷ b ∷ c ∷ d ∷ [] ≡ a′ ∷ b′ ∷ c′ ∷ d′ ∷ []
 same-four ea eb ec ed = cc
-
-pub both-true : {a b : Bool} → a ≡ true → b ≡ true → (a && b) ≡ true
-both-true e f = simp (e, f)
 
 -- the rule of word 1's type, over the intra bit and the type
 abbrev permitted : ℕ → ℕ → Bool

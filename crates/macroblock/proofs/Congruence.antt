@@ -1,6 +1,6 @@
 -- Equal parts make equal wholes, for the proofs of the functions: over plain variables, so that each is checked once.
 use mathlib.Core.Path.{_≡_, ap, ap₂, _∙_}
-use mathlib.Core.Bool.{Bool, _&&_}
+use mathlib.Core.Bool.{Bool}
 use mathlib.Core.List.{List, _∷_}
 use Prim.Native.Nat.{ℕ}
 use lib.Dec.{eqb}
@@ -37,9 +37,6 @@ same-rules {a} {b} {c} {d} {a′} {b′} {c′} {d′} ea eb ec ed = ap₂ (λ (
 -- a word against its copy, from what the code read
 pub copied-by : (ws : List ℕ) (i j : ℕ) {w : ℕ} {vs : List ℕ} → w ≡ wordAt ws i → vs ≡ vectorWords (motionIn ws) → eqb w (getD vs j 0) ≡ copied ws i j
 copied-by ws i j ew ev = ap₂ (λ (x : ℕ) (xs : List ℕ). eqb x (getD xs j 0)) ew ev
-
-pub same-both : {a b a′ b′ : Bool} → a ≡ a′ → b ≡ b′ → (a && b) ≡ (a′ && b′)
-same-both ea eb = ap₂ _&&_ ea eb
 
 pub same-fields : (k : Kept) {a b c d a′ b′ c′ d′ : Bool} → a ≡ a′ → b ≡ b′ → c ≡ c′ → d ≡ d′ → fieldRules a b c d k ≡ fieldRules a′ b′ c′ d′ k
 same-fields k {a} {b} {c} {d} {a′} {b′} {c′} {d′} ea eb ec ed = ap₂ (λ (x y : Bool). fieldRules x y c d k) ea eb ∙ ap₂ (λ (x y : Bool). fieldRules a′ b′ x y k) ec ed

@@ -3,7 +3,7 @@ use Prim.Native.Nat.{ℕ}
 use mathlib.Core.Bool.{Bool, cond, not, _&&_, _||_}
 use mathlib.Core.List.{List, [], _∷_, _++_}
 use lib.Dec.{eqb, leb}
-use Rattle.fields.specs.Word.{bits, hasBits, isSet}
+use Rattle.fields.specs.Word.{bits, isSet, zeroBits}
 use Rattle.answers.specs.Answers.{Rule, rule}
 use Rattle.macroblock.specs.Cases.{vectorWords}
 use Rattle.headers.specs.Words.{wordAt}
@@ -29,10 +29,6 @@ keptIf intra m =
 
 unfoldable pub keptBy : Macroblock → Kept
 keptBy m = keptIf (isIntra (m .case)) m
-
--- Bits of a word that are zero.
-abbrev pub zeroBits : ℕ → ℕ → ℕ → Bool
-zeroBits word hi lo = hasBits word hi lo 0
 
 -- Word 1: "Intra: type 1Ah .. Inter: 1 forward, 2 backward, 3 both."
 abbrev pub typePermitted : ℕ → Bool

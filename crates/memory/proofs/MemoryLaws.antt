@@ -1,15 +1,13 @@
 -- A state that is stored in memory and read again.
-use mathlib.Core.Bool.{Bool, true, false, not}
 use mathlib.Core.List.{List, _++_}
 use mathlib.Core.Path.{_≡_, refl, sym, ap, _∙_}
 use Prim.Native.Nat.{ℕ, zero, suc, _+_, _%_, _^_, _<_}
 use native.Mathlib.Nat.{add-zero, mod-eq-of-lt}
 use native.Mathlib.Omega.{arith}
-use lib.Dec.{eqb}
 use lib.ListN.{length, getD, length-map, List·getD-map}
 use lib.Seq.{ext-getD, getD-append-add}
+use Rattle.fields.proofs.Fields.{flag-nonzero}
 use Rattle.fields.specs.Bytes.{elements}
-use Rattle.fields.specs.Word.{flag}
 use Rattle.parts.specs.declared.State.{State}
 use Rattle.memory.specs.Memory.{bufferIn, stateIn, progressWords, ownWords, lengthsWords, stateWords}
 
@@ -30,10 +28,6 @@ buffer-length m = length-map (elements m 38 61) (λ w. w % 2 ^ 32) ∙ length-el
 pub buffer-at : (m : List ℕ) (i : ℕ) → i < 61 → getD (bufferIn m) i 0 ≡ getD m (38 + i) 0 % 2 ^ 32
 unfolding bufferIn
 buffer-at m i h = List·getD-map (λ w. w % 2 ^ 32) (elements m 38 61) i 0 ∙ ap (λ (n : ℕ). n % 2 ^ 32) (elements-at m 38 61 i h)
-
-flag-back : (b : Bool) → not (eqb (flag b) 0) ≡ b
-flag-back true = refl
-flag-back false = refl
 
 -- Numbers of a state that fit their types: the words of it that are cut when they are read.
 pub record Fitting (s : State) : Type 0 where
@@ -74,7 +68,7 @@ pub stored-read : (s : State) → Fitting s → stateIn (stateWords s) ≡ s
 unfolding stateIn stateWords
 stored-read s f =
     simp (
-      flag-back,
+      flag-nonzero,
       mod-eq-of-lt (f .width),
       mod-eq-of-lt (f .height),
       mod-eq-of-lt (f .pitch),

@@ -1,27 +1,22 @@
 -- A batch in parts is answered as the whole batch.
-use mathlib.Core.List.{List, [], _∷_, foldl, foldl-append, flatten}
-use mathlib.Core.Path.{_≡_, sym, _∙_, ap}
+use mathlib.Core.List.{List, [], _++_, foldl, foldl-append, flatten}
+use mathlib.Core.Path.{_≡_, refl, sym, _∙_, ap}
 use Prim.Native.Nat.{ℕ}
+use Rattle.lists.proofs.Stepping.{along-whole}
 use Rattle.batch.specs.Reports.{numberOf, placeOf, reportedOf, finish, verdictOf, report}
 use Rattle.batch.specs.Walk.{Walk, step}
 use Rattle.batch.specs.declared.Lengths.{Lengths}
 use Rattle.batch.specs.declared.Report.{Report}
-use Rattle.parts.specs.States.{walkIn, Answered, Along, HandedOver}
+use Rattle.parts.specs.States.{walkIn, Handed, Answered, HandedOver}
 use Rattle.parts.specs.declared.State.{State}
 
--- the walk over all words of the parts, and the same lengths
-along : (s : State) (parts : List (List ℕ)) (r : State) → Along s parts r
-    → (walkIn r ≡ foldl step (walkIn s) (flatten parts)) × (r .lengths ≡ s .lengths)
-unfolding flatten
-along s [] r e = (ap walkIn (sym e), ap (λ (x : State). x .lengths) (sym e))
-along s (part ∷ parts) r h =
-    let t = h .0 in
-    let rest = along t parts r (h .2) in (
-      rest .0
-          ∙ ap (λ (w : Walk). foldl step w (flatten parts)) (h .1 .0)
-          ∙ sym (foldl-append step (walkIn s) part (flatten parts)),
-      rest .1 ∙ h .1 .1,
-    )
+-- two parts, one after the other, are one part of both, and nothing changes without a part
+handed-none : (s : State) → Handed s [] s
+handed-none s = (refl, refl)
+
+handed-both : (s : State) (a : List ℕ) (t : State) (b : List ℕ) (r : State) → Handed s a t → Handed t b r → Handed s (a ++ b) r
+handed-both s a t b r h k =
+    (k .0 ∙ ap (λ (w : Walk). foldl step w b) (h .0) ∙ sym (foldl-append step (walkIn s) a b), k .1 ∙ h .1)
 
 -- Document 01's claim on lists of parts: what is answered when a batch is handed over in parts is the answer to the whole batch,
 -- in number, place and lengths. For all lengths, all lists of parts (the empty list, empty parts, parts after a fault, more than
@@ -31,7 +26,7 @@ pub parts-whole : (l : Lengths) (parts : List (List ℕ)) (s : State) (r : Repor
 unfolding report verdictOf finish
 parts-whole l parts s r h answered =
     let begun = h .1 in
-    let rest = along (h .0) parts s (h .2) in
+    let rest = along-whole Handed handed-none handed-both (h .0) parts s (h .2) in
     answered
     ∙ ap (λ (k : Lengths). finish k (walkIn s)) (rest .1 ∙ begun .1)
     ∙ ap (finish l) (rest .0 ∙ ap (λ (w : Walk). foldl step w (flatten parts)) (begun .0))

@@ -1,10 +1,11 @@
 -- What the state of a check in parts stands for, and what its functions promise.
 use Prim.Native.Nat.{ℕ, _+_}
 use mathlib.Core.Bool.{cond, _&&_}
-use mathlib.Core.List.{List, [], _∷_, foldl, flatten}
+use mathlib.Core.List.{List, [], foldl, flatten}
 use mathlib.Core.Path.{_≡_}
 use lib.Dec.{leb, ltb}
 use lib.ListN.{take}
+use Rattle.lists.specs.Calls.{Along}
 use Rattle.headers.specs.Headers.{headerOf, wordsIn}
 use Rattle.headers.specs.Words.{wordAt}
 use Rattle.batch.specs.Reports.{finish}
@@ -36,15 +37,9 @@ Handed s part r = (walkIn r ≡ foldl step (walkIn s) part) × (r .lengths ≡ s
 abbrev pub Answered : State → Report → Type 0
 Answered s r = r ≡ finish (s .lengths) (walkIn s)
 
--- From state `s` to state `r` by a list of parts: for the empty list they are the same; for a part and more parts, some state meets
--- what handing over that part to `s` promises, and `r` comes from it by the others.
-abbrev pub Along : State → List (List ℕ) → State → Type 0
-Along s [] r = s ≡ r
-Along s (part ∷ parts) r = (t : State) × Handed s part t × Along t parts r
-
 -- A state that was handed over from four lengths by a list of parts, whatever the functions returned on the way.
 abbrev pub HandedOver : Lengths → List (List ℕ) → State → Type 0
-HandedOver l parts r = (s : State) × Begun l s × Along s parts r
+HandedOver l parts r = (s : State) × Begun l s × Along Handed s parts r
 
 -- An answer to a batch in parts: some list of parts makes the batch up, a state was handed over along it, and this is answered after it.
 abbrev pub InParts : List ℕ → Lengths → Report → Type 0

@@ -1,14 +1,15 @@
 -- What a state holds of the command in progress, and how the walk goes on from it.
 use mathlib.Core.Bool.{Bool, true, false, cond, _&&_}
-use mathlib.Core.List.{List, [], _∷_, _++_, foldl, foldl-append}
+use mathlib.Core.List.{List, [], _∷_, _++_, foldl}
 use mathlib.Core.Logic.{inl, inr}
 use mathlib.Core.Path.{_≡_, refl, sym, _∙_, ap, subst}
-use Prim.Native.Nat.{ℕ, suc, _+_, _-_, _≤_, _<_}
+use Prim.Native.Nat.{ℕ, _+_, _-_, _≤_, _<_}
 use native.Mathlib.Omega.{arith}
 use borrow.Author.Tests.{lt-ltb, le-ltb, lt-leb, le-leb, ltb-true, leb-true}
 use lib.Dec.{leb, ltb}
-use lib.ListN.{length, take, drop, length-append, length-drop, take-append-drop, List·getD-append}
-use lib.Seq.{getD-take, length-take-le, take-all, drop-length}
+use lib.ListN.{length, take, drop, length-append, length-drop, List·getD-append}
+use lib.Seq.{getD-take, length-take-le, drop-length}
+use Rattle.lists.proofs.Slices as slices
 use Rattle.headers.specs.Headers.{headerOf, wordsIn}
 use Rattle.headers.specs.Words.{wordAt}
 use Rattle.headers.proofs.HeaderLaws.{words-few}
@@ -106,19 +107,12 @@ kept p at n b (w ∷ g) (inr h) l q t =
     let fewer = h .1 in
     ap (λ (x : Bool). heldIn x at n b) (h .0) ∙ held-some at n b (omega arith) (omega arith) ∙ t
 
--- the end of a part
-pub part-rest : (used : ℕ) (ws : List ℕ) → take (length ws - used) (drop used ws) ≡ drop used ws
-part-rest used ws = let len = length-drop used ws in take-all (length ws - used) (drop used ws) (omega arith)
-
 -- the first n words of a buffer where the first `need` of a part were stored behind the words held
 pub filled : (held need n : ℕ) (b part r : List ℕ) → need ≤ length part → held + need ≡ n
     → take (held + length (take (need - 0) part)) r ≡ take held b ++ take (need - 0) part → take n r ≡ take held b ++ take need part
 filled held need n b part r h q e =
     let zero : need - 0 ≡ need = omega arith in
-    let e' : take (held + length (take need part)) r ≡ take held b ++ take need part = rw zero at e in
-    let len : length (take need part) ≡ need = length-take-le need part h in
-    let all : n ≡ held + length (take need part) = omega arith in
-    ap (λ (k : ℕ). take k r) all ∙ e'
+    slices.filled held need n b part r h q (rw zero at e)
 
 -- What whole commands leave of a run of words.
 pub record Rest (at used total : ℕ) : Type 0 where
@@ -177,10 +171,6 @@ pub walk-stopped : (s : State) → s .stopped ≡ true → walkIn s ≡ stopped 
 unfolding walkIn
 walk-stopped s e = simp e
 
-pub no-length : (g : List ℕ) → length g ≡ 0 → g ≡ []
-no-length [] e = refl
-no-length (x ∷ g) e = absurd (let h : suc (length g) ≡ 0 = e in omega arith)
-
 -- A stopped check takes no more words.
 pub stopped-stays : (s : State) (ws : List ℕ) → s .stopped ≡ true → walkIn s ≡ foldl step (walkIn s) ws
 stopped-stays s ws e = rw (walk-stopped s e) (sym (stays (s .number) (s .place) ws))
@@ -191,13 +181,11 @@ pub from-none : (s : State) (ws : List ℕ) → s .stopped ≡ false → gathere
 from-none s ws e z = ap (λ (x : Walk). foldl step x ws) (sym (walk-going s e ∙ ap (going (s .at) (s .progress)) z))
 
 -- the words of a part by its first m and the others
-split : (w : Walk) (m : ℕ) (ws : List ℕ) → foldl step w ws ≡ foldl step (foldl step w (take m ws)) (drop m ws)
-split w m ws = ap (foldl step w) (sym (take-append-drop m ws)) ∙ foldl-append step w (take m ws) (drop m ws)
 
 -- After the first m words of a part the state is `t`: the others.
 module _ (w : Walk) (m : ℕ) (ws : List ℕ) (t : State) (came : walkIn t ≡ foldl step w (take m ws)) where
   on : foldl step w ws ≡ foldl step (walkIn t) (drop m ws)
-  on = split w m ws ∙ ap (λ (x : Walk). foldl step x (drop m ws)) (sym came)
+  on = slices.split step w m ws ∙ ap (λ (x : Walk). foldl step x (drop m ws)) (sym came)
 
   pub then-stopped : t .stopped ≡ true → walkIn t ≡ foldl step w ws
   then-stopped e = stopped-stays t (drop m ws) e ∙ sym on

@@ -6,10 +6,10 @@ use Prim.Native.Nat.{ℕ, _*_, _≤_}
 use native.Mathlib.Omega.{arith}
 use borrow.Author.Tests.{leb-true}
 use lib.Dec.{T, leb}
+use Rattle.lists.proofs.Booleans.{and-left, and-right}
 use Rattle.answers.specs.Answers.{judged}
 use Rattle.answers.specs.declared.Answer.the-variants.{Accepted}
 use Rattle.answers.proofs.Judging.{all-hold, within}
-use Rattle.macroblock.proofs.CaseLaws.{and-left, and-right}
 use Rattle.picture.specs.Pictures.{pictureOf, fits, pictureTable, pictureRules}
 use Rattle.picture.specs.Surfaces.{surfaceTable, surfaceRules}
 use Rattle.picture.specs.declared.Frame.{Frame}

@@ -3,11 +3,10 @@ use Prim.Native.Nat.{ℕ, _+_, _%_}
 use mathlib.Core.Bool.{Bool, _&&_}
 use mathlib.Core.List.{List, [], _∷_}
 use lib.Dec.{eqb}
-use Rattle.fields.specs.Word.{bits, hasBits}
+use Rattle.fields.specs.Word.{bits, hasBits, zeroBits}
 use Rattle.prediction.specs.declared.Surface.{Surface}
 use Rattle.answers.specs.Answers.{Rule, rule}
 use Rattle.headers.specs.Words.{wordAt}
-use Rattle.macroblock.specs.Rules.{zeroBits}
 use Rattle.picture.specs.declared.Frame.{Frame}
 
 -- "2: height−1 in 31:18, width−1 in 17:4", and what words 3 and 4 say.

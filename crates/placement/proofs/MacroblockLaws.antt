@@ -4,6 +4,7 @@ use mathlib.Core.List.{List}
 use Prim.Native.Nat.{ℕ, _<_}
 use borrow.Author.Tests.{ltb-true}
 use lib.Dec.{T, ltb}
+use Rattle.lists.proofs.Booleans.{and-right}
 use Rattle.answers.specs.Answers.{earlier, judged}
 use Rattle.answers.specs.declared.Answer.{Answer}
 use Rattle.answers.specs.declared.Answer.the-variants.{Accepted}
@@ -11,7 +12,6 @@ use Rattle.answers.proofs.Judging.{judged-append, all-hold, none-broken, hold-e
 use Rattle.macroblock.specs.Macroblocks.{macroblockOf}
 use Rattle.macroblock.specs.Rules.{commandRules}
 use Rattle.macroblock.specs.declared.Macroblock.{Macroblock}
-use Rattle.macroblock.proofs.CaseLaws.{and-right}
 use Rattle.macroblock.proofs.CommandLaws.{command-within}
 use Rattle.progress.specs.declared.Progress.{Progress}
 use Rattle.placement.specs.Blocks.{blocksOf}

@@ -9,13 +9,13 @@ use native.Mathlib.Omega.{arith}
 use borrow.Author.Tests.{ltb-true, ltb-false, eqb-true}
 use lib.Arith.{digits-div, digits-mod}
 use lib.Dec.{eqb, ltb}
+use Rattle.lists.proofs.Booleans.{and-left, and-right}
 use Rattle.answers.specs.Answers.{judged}
 use Rattle.answers.specs.declared.Answer.the-variants.{Accepted}
 use Rattle.answers.proofs.Judging.{all-hold}
 use Rattle.prediction.specs.declared.Grid.{Grid}
 use Rattle.prediction.specs.declared.Position.{Position}
 use Rattle.macroblock.specs.Macroblocks.{macroblockOf}
-use Rattle.macroblock.proofs.CaseLaws.{and-left, and-right}
 use Rattle.progress.specs.declared.Progress.{Progress}
 use Rattle.placement.specs.Placing.{placedBy, placedRules, macroblockRules}
 use Rattle.placement.specs.Progressing.{positionAfter, countBefore, stageAfter, progressAfter, macroblockNext}

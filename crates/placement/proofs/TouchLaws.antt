@@ -4,6 +4,7 @@ use mathlib.Core.List.{List}
 use mathlib.Core.Logic.{_⊎_}
 use mathlib.Core.Path.{_≡_, refl, ap}
 use Prim.Native.Nat.{ℕ, _≤_, _<_}
+use Rattle.lists.proofs.Booleans.{no}
 use Rattle.prediction.specs.Vectors.{still}
 use Rattle.prediction.specs.Extents.{Exact}
 use Rattle.prediction.specs.Blocks.{Occupies, blockAt}
@@ -17,7 +18,7 @@ use Rattle.prediction.proofs.BlockLaws.{block-exact, own-inside}
 use Rattle.prediction.proofs.ExtentLaws.{empty-exact, join-exact}
 use Rattle.answers.specs.Answers.{judged}
 use Rattle.answers.specs.declared.Answer.the-variants.{Accepted}
-use Rattle.answers.proofs.Judging.{no, all-hold}
+use Rattle.answers.proofs.Judging.{all-hold}
 use Rattle.macroblock.specs.Macroblocks.{macroblockOf}
 use Rattle.picture.specs.declared.Codes.{Codes}
 use Rattle.progress.specs.Buffers.{Buffer, source, reconstructed, forward, backward, extentOf}

@@ -9,6 +9,7 @@ use lib.Dec.{leb}
 use lib.Pow.{pow-mono}
 use lib.IntN.{pos, subℕ}
 use lib.Signed.{leZ}
+use Rattle.lists.proofs.Booleans.{same}
 use Rattle.prediction.specs.Vectors.{vectorOf}
 use Rattle.prediction.specs.Spans.{firstOf, halved}
 use Rattle.prediction.specs.Extents.{emptyExtent}
@@ -22,12 +23,6 @@ use Rattle.prediction.specs.declared.Line.{Line}
 use Rattle.prediction.proofs.Integers.{split, pos-sub, add-sub, le-sums, both}
 use Rattle.prediction.proofs.Components.{half-below, half-above, first-is, last-at}
 use Rattle.prediction.proofs.TwosComplement.{pair}
-
--- ---- tests that agree
-pub same : (p q : Bool) → (p ≡ true → q ≡ true) → (q ≡ true → p ≡ true) → p ≡ q
-same true q f g = sym (f refl)
-same false true f g = g refl
-same false false f g = refl
 
 -- ---- the test of a line, in ℕ: the component is b - 32768
 pub record Fits (l : Line) (place b : ℕ) : Type 0 where

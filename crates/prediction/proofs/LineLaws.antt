@@ -8,6 +8,7 @@ use borrow.Author.Tests.{leb-true, le-leb, ltb-true, lt-ltb}
 use lib.Dec.{leb, ltb}
 use lib.IntN.{ℤ, pos, subℕ}
 use lib.Signed.{mag, leZ}
+use Rattle.lists.proofs.Booleans.{same}
 use Rattle.prediction.specs.Vectors.{vectorOf, still}
 use Rattle.prediction.specs.Ranges.{inRange, vectorInRange}
 use Rattle.prediction.specs.Spans.{firstOf, inside, halved}
@@ -27,7 +28,7 @@ use Rattle.prediction.proofs.BlockBytes.{tests}
 use Rattle.prediction.proofs.AddressGrows.{address-column, address-tiles}
 use Rattle.prediction.proofs.BlockLaws.{answer, own-inside}
 use Rattle.prediction.proofs.ExtentLaws.{join-larger}
-use Rattle.prediction.proofs.LineCode.{same, line-means, line-holds, one-up, luma-at, chroma-at}
+use Rattle.prediction.proofs.LineCode.{line-means, line-holds, one-up, luma-at, chroma-at}
 
 -- ---- a line's test is the range of its code and the inside test
 swapped : (a b c d : Bool) → ((a && b) && (c && d)) ≡ ((a && c) && (b && d))

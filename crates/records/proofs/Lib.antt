@@ -1,6 +1,6 @@
 -- for the crates above
 pub mod FlagsByte
-pub mod LentRoom
+pub mod AloneTests
 pub mod RecordLaws
 pub mod RoundTrips
 pub mod Spelling

@@ -8,6 +8,8 @@ use native.Mathlib.Omega.{arith}
 use borrow.Author.Tests.{eqb-true, eqb-false, eq-eqb, leb-true, le-leb}
 use lib.Dec.{T, eqb, leb}
 use lib.ListN.{length, getD}
+use Rattle.fields.proofs.Fields.{flag-back}
+use Rattle.lists.proofs.Booleans.{and-left, and-right, both-true}
 use Rattle.fields.specs.Word.{isSet, flag, packed}
 use Rattle.fields.specs.Bytes.{bytesOf, numberOf, elements}
 use Rattle.fields.proofs.Elements.{elements-all}
@@ -28,8 +30,8 @@ use Rattle.macroblock.specs.declared.Flags.{Flags}
 use Rattle.macroblock.specs.declared.Kept.{Kept}
 use Rattle.macroblock.specs.declared.Macroblock.{Macroblock}
 use Rattle.macroblock.specs.declared.Motion.{Motion}
-use Rattle.macroblock.proofs.CaseLaws.{and-left, and-right, kind-most, case-fits, case-back, motion-lt}
-use Rattle.macroblock.proofs.CommandLaws.{flag-back, flag-again, bit-again, both-true, quantiser-lt}
+use Rattle.macroblock.proofs.CaseLaws.{kind-most, case-fits, case-back, motion-lt}
+use Rattle.macroblock.proofs.CommandLaws.{flag-again, bit-again, quantiser-lt}
 use Rattle.macroblock.proofs.Congruence.{same-flags, same-macroblock}
 use Rattle.records.specs.Layout.{Part, columnPart, rowPart, upperPart, kindPart, skipPart, patternPart, maxSizePart, targetSizePart, quantiserPart, flagsPart, fillerPart, forwardPart, backwardPart}
 use Rattle.records.specs.Records.{flagFields, flagsOf, valueAt, motionIn, recordOf, macroblockIn}

@@ -8,6 +8,8 @@ use borrow.Author.Tests.{eqb-true, ltb-false}
 use lib.Dec.{eqb, ltb}
 use lib.ListN.{length, take, drop, replicate}
 use lib.Seq.{take-at}
+use Rattle.answers.proofs.LendingLaws.{writes}
+use Rattle.answers.specs.Lending.{lentAfter, next, roomFor}
 use Rattle.fields.specs.Bytes.{elements}
 use Rattle.fields.proofs.Elements.{elements-take}
 use Rattle.fields.proofs.LittleEndian.{Bytes}
@@ -24,10 +26,10 @@ use Rattle.macroblock.specs.Rules.{commandRules}
 use Rattle.macroblock.specs.declared.Macroblock.{Macroblock}
 use Rattle.macroblock.proofs.CaseLaws.{vectors-four}
 use Rattle.macroblock.proofs.CommandLaws.{macroblock-back, words-kept, word-below, macroblock-legal, words-back}
-use Rattle.records.specs.Alone.{next, lentAfter, roomFor, readFault, readAnswer, readRoom, recordFault, writeAnswer, writeRoom, LegalRecord}
+use Rattle.records.specs.Alone.{readFault, readAnswer, readRoom, recordFault, writeAnswer, writeRoom, LegalRecord}
 use Rattle.records.specs.Records.{recordOf, macroblockIn}
 use Rattle.records.specs.RecordRules.{recordRules}
-use Rattle.records.proofs.LentRoom.{writes, whole, right-length}
+use Rattle.records.proofs.AloneTests.{whole, right-length}
 use Rattle.records.proofs.RecordLaws.{record-back, record-kept, record-legal, bytes-again}
 
 -- what an accepted command keeps

@@ -1,10 +1,11 @@
 -- One command read alone, and one record written alone.
 use Prim.Native.Nat.{ℕ}
 use mathlib.Core.Bool.{cond, not}
-use mathlib.Core.List.{List, _++_}
+use mathlib.Core.List.{List}
 use mathlib.Core.Path.{_≡_}
 use lib.Dec.{eqb, ltb}
-use lib.ListN.{length, drop, replicate}
+use lib.ListN.{length, replicate}
+use Rattle.answers.specs.Lending.{next, lentAfter, roomFor}
 use Rattle.answers.specs.Answers.{judged}
 use Rattle.headers.specs.Headers.{macroblockHeader}
 use Rattle.macroblock.specs.Legal.{Words}
@@ -16,21 +17,6 @@ use Rattle.answers.specs.declared.Answer.the-variants.{Accepted, Refused}
 use Rattle.records.specs.Layout.{recordLength}
 use Rattle.records.specs.Records.{recordOf, macroblockIn}
 use Rattle.records.specs.RecordRules.{recordRules}
-
--- The next answer where nothing was refused before it.
-abbrev pub next : Answer → Answer → Answer
-next Accepted b = b
-next (Refused n p) b = Refused n p
-
--- What lent memory holds after an answer: what was to be written, and what stood beyond it; or all that stood there. "No
--- refusal writes into lent memory."
-abbrev pub lentAfter : Answer → List ℕ → List ℕ → List ℕ
-lentAfter Accepted new room = new ++ drop (length new) room
-lentAfter (Refused n p) new room = room
-
--- Room for so many bytes or words, or "14 lent room too small: bytes or words needed".
-abbrev pub roomFor : ℕ → List ℕ → Answer
-roomFor needed room = cond (ltb (length room) needed) (Refused 14 needed) Accepted
 
 -- "an empty run gets 1 at 0, any header but MACROBLOCK's gets 2", fewer than nine words 1 at the words given; then the rules of
 -- a command alone; "14 follows all these".

@@ -5,7 +5,8 @@ use macroblock::Macroblock;
 ghost use mathlib.Core.Path.{_≡_};
 ghost use Rattle.records.specs.Layout.{recordLength};
 ghost use Rattle.records.specs.Records.{recordOf};
-ghost use Rattle.records.specs.Alone.{roomFor, lentAfter, readAnswer, readRoom};
+ghost use Rattle.answers.specs.Lending.{roomFor, lentAfter};
+ghost use Rattle.records.specs.Alone.{readAnswer, readRoom};
 
 // Writes a macroblock's record into the first 24 bytes of room.
 pub fn write_record(macroblock: Macroblock, room: &mut [u8]) -> Answer

@@ -2,17 +2,17 @@
 use mathlib.Core.Bool.{Bool, true, false, not}
 use mathlib.Core.List.{List, [], _∷_, _++_, append-assoc, append-nil, flatten}
 use mathlib.Core.Logic.{_⊎_, inl, inr}
-use mathlib.Core.Path.{_≡_, refl, sym, ap, ap₂, subst, subst₂, _∙_}
+use mathlib.Core.Path.{_≡_, refl, sym, ap, ap₂, subst, _∙_}
 use Prim.Native.Nat.{ℕ, _+_, _*_, _-_, _≤_, _<_}
 use native.Mathlib.Nat.{add-zero, add-assoc}
 use native.Mathlib.Omega.{arith}
 use borrow.Author.Tests.{lt-ltb}
 use lib.ListN.{length, take, drop, length-take, length-drop}
 use lib.Seq.{take-add, getD-drop, getD-take}
+use Rattle.lists.proofs.Slices.{same-part}
 use Rattle.fields.specs.Word.{bits, isSet}
 use Rattle.prediction.specs.Extents.{joined}
 use Rattle.prediction.specs.declared.Extent.{Extent}
-use Rattle.prediction.specs.declared.Position.{Position}
 use Rattle.prediction.proofs.ExtentLaws.{join-assoc}
 use Rattle.prediction.proofs.LineLaws.{reach-grows}
 use Rattle.headers.specs.Headers.{macroblockHeader}
@@ -27,14 +27,11 @@ use Rattle.rows.specs.Steps.{placeIn, reachIn, Found}
 use Rattle.rows.specs.Words.{dueBits}
 use Rattle.rows.specs.declared.Taken.{Taken}
 use Rattle.rows.proofs.Keeping.{accepted}
-use Rattle.rows.proofs.Taking.{Stands, Joins, found-joins, next-is}
+use Rattle.rows.proofs.Taking.{Stands, found-joins, next-is}
 
 -- The k-th command of words.
 abbrev pub commandAt : List ℕ → ℕ → List ℕ
 commandAt ws k = take 9 (drop (9 * k) ws)
-
-pub same-part : (ws : List ℕ) {n m i j : ℕ} → n ≡ m → i ≡ j → take n (drop i ws) ≡ take m (drop j ws)
-same-part ws e f = ap₂ (λ (x y : ℕ). take x (drop y ws)) e f
 
 -- one more command behind others
 more : (p : Progress) (cs : List (List ℕ)) (q : Progress) (c : List ℕ) → Follow p cs q → length c ≡ 9 → wordAt c 0 ≡ macroblockHeader

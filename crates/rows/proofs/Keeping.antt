@@ -3,12 +3,13 @@ use mathlib.Core.Bool.{Bool, true, false, cond, not, _&&_, _||_}
 use mathlib.Core.List.{List, [], _∷_}
 use mathlib.Core.Logic.{_⊎_, inl, inr}
 use mathlib.Core.Path.{_≡_, refl, sym, ap, ap₂, _∙_}
-use Prim.Native.Nat.{ℕ, _+_, _*_, _^_, _≤_, _<_}
+use Prim.Native.Nat.{ℕ, _+_, _≤_, _<_}
 use native.Mathlib.Omega.{arith}
 use borrow.Author.Tests.{eq-eqb, ne-eqb, le-leb, lt-ltb}
 use lib.Dec.{T, eqb, leb, ltb}
 use lib.ListN.{length}
-use Rattle.fields.specs.Word.{bits, hasBits, withBits, isSet, flag}
+use Rattle.lists.proofs.Booleans.{both-true, not-and}
+use Rattle.fields.specs.Word.{bits, withBits, isSet}
 use Rattle.fields.proofs.Fields.{field-kept}
 use Rattle.headers.specs.Words.{wordAt}
 use Rattle.answers.specs.Answers.{judged}
@@ -16,8 +17,8 @@ use Rattle.answers.specs.declared.Answer.the-variants.{Accepted}
 use Rattle.answers.proofs.Judging.{none-broken}
 use Rattle.macroblock.specs.Cases.{motion, motionOf, caseOf, vectorWords}
 use Rattle.macroblock.specs.Macroblocks.{isIntra, kindIn, flagsIn, macroblockOf, intraType}
-use Rattle.macroblock.specs.Rules.{keptIf, keptBy, zeroBits, typePermitted, fixed1, fixed3, fixed4, fieldRules, vectorRules, copied, commandRules}
-use Rattle.macroblock.proofs.CommandLaws.{both-true, bits-lt}
+use Rattle.macroblock.specs.Rules.{keptBy, typePermitted, fixed1, fixed3, fixed4, fieldRules, vectorRules, copied, commandRules}
+use Rattle.macroblock.proofs.CommandLaws.{bits-lt}
 use Rattle.placement.specs.Blocks.{forwardOf, backwardOf, predicted, blocksOf}
 use Rattle.placement.specs.Progressing.{previousOf}
 use Rattle.placement.specs.Placing.{exactly, inSequence, codingPermits, zeroVectors, repeats, skipPermitted, atPosition, flagsAgree, placedBy, placedRules, macroblockRules}
@@ -333,10 +334,6 @@ keeps-inter q c before k placed t kept coded previous of =
       eight = copy 8 3 (sym (kept .eight));
     }
   where
-    not-and : (a : Bool) → not (a && false) ≡ true
-    not-and true = refl
-    not-and false = refl
-
     unskipped : bits (wordAt c 1) 2 2 ≡ 0 → isSet (bits (wordAt c 1) 2 2) ≡ false
     unskipped e = ap isSet e
 

@@ -1,34 +1,26 @@
 -- One command of a row: it keeps its rules, and the progress after it.
-use mathlib.Core.Bool.{Bool, true, false, cond, not, _&&_, _||_}
+use mathlib.Core.Bool.{Bool, true, false, not, _&&_, _||_}
 use mathlib.Core.List.{List, [], _∷_}
 use mathlib.Core.Logic.{_⊎_, inl, inr}
 use mathlib.Core.Path.{_≡_, refl, sym, ap, ap₂, subst, subst₂, _∙_}
-use Prim.Native.Nat.{ℕ, _+_, _*_, _-_, _≤_, _<_}
+use Prim.Native.Nat.{ℕ, _+_, _-_, _<_}
 use native.Mathlib.Omega.{arith}
-use borrow.Author.Tests.{eq-eqb}
 use lib.Dec.{eqb}
 use lib.ListN.{length}
+use Rattle.lists.proofs.Booleans.{no}
 use Rattle.prediction.specs.Blocks.{blockAt}
 use Rattle.prediction.specs.Extents.{emptyExtent, joined}
-use Rattle.prediction.specs.Lines.{lineOf, vectorInLines, reachOf, chromaHighest}
+use Rattle.prediction.specs.Lines.{lineOf, vectorInLines, chromaHighest}
 use Rattle.prediction.specs.Ranges.{vectorInRange}
 use Rattle.prediction.specs.Vectors.{vectorOf, still}
-use Rattle.prediction.specs.declared.Block.{Block}
 use Rattle.prediction.specs.declared.Block.the-variants.{Inside}
 use Rattle.prediction.specs.declared.Extent.{Extent}
-use Rattle.prediction.specs.declared.Grid.{Grid}
 use Rattle.prediction.specs.declared.Position.{Position}
-use Rattle.prediction.specs.declared.Surface.{Surface}
 use Rattle.prediction.proofs.LineLaws.{in-lines, still-reach}
 use Rattle.prediction.proofs.ExtentLaws.{join-empty}
-use Rattle.headers.specs.Headers.{macroblockHeader}
 use Rattle.headers.specs.Words.{wordAt}
-use Rattle.answers.specs.Answers.{judged}
-use Rattle.answers.specs.declared.Answer.the-variants.{Accepted}
-use Rattle.answers.proofs.Judging.{no}
 use Rattle.macroblock.specs.Cases.{motion, motionOf, caseOf, vectorWords}
 use Rattle.macroblock.specs.Macroblocks.{kindIn, flagsIn, macroblockOf}
-use Rattle.macroblock.specs.declared.Case.{Case}
 use Rattle.macroblock.specs.declared.Flags.{Flags}
 use Rattle.picture.specs.declared.Codes.{Codes}
 use Rattle.picture.specs.declared.Frame.{Frame}
@@ -38,12 +30,12 @@ use Rattle.progress.specs.declared.Previous.{Previous}
 use Rattle.progress.specs.declared.Progress.{Progress}
 use Rattle.progress.specs.declared.Stage.{Stage}
 use Rattle.placement.specs.Blocks.{forwardOf, backwardOf, isInside, extentIn, predicted, blocksOf}
-use Rattle.placement.specs.Placing.{codingPermits, macroblockRules}
+use Rattle.placement.specs.Placing.{codingPermits}
 use Rattle.placement.specs.Progressing.{positionAfter, stageAfter, previousOf, extentsAfter, progressAfter, macroblockNext}
 use Rattle.rows.specs.Rows.{afterRow, previousIn}
 use Rattle.rows.specs.Steps.{linesOf, isPredicted, typeIn, placeIn, reachIn, ForwardFits, BackwardFits, ForwardFound, BackwardFound, BothFound, IntraFound, Found}
 use Rattle.rows.specs.Words.{lowHalf, dueBits, FlagsKept, IntraKept, InterKept}
-use Rattle.rows.proofs.Keeping.{Keeps, accepted, AtPlace, at-place, Typed, typed-intra, typed-inter, keeps-intra, OfKind, keeps-inter}
+use Rattle.rows.proofs.Keeping.{Keeps, AtPlace, at-place, Typed, typed-intra, typed-inter, keeps-intra, OfKind, keeps-inter}
 
 abbrev extents : Extent → Extent → Extent → Extent → Extents
 extents x y z w = record { source = x; reconstructed = y; forward = z; backward = w }

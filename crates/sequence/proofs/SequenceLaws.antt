@@ -8,15 +8,15 @@ use native.Mathlib.Nat.{add-zero, zero-mul}
 use native.Mathlib.Omega.{arith}
 use borrow.Author.Tests.{not-true, leb-true}
 use lib.Dec.{leb, ltb}
+use Rattle.lists.proofs.Booleans.{no, and-left, and-right}
 use Rattle.fields.specs.Word.{flag}
 use Rattle.answers.specs.Answers.{judged}
 use Rattle.answers.specs.declared.Answer.the-variants.{Accepted}
-use Rattle.answers.proofs.Judging.{no, all-hold, none-broken}
+use Rattle.answers.proofs.Judging.{all-hold, none-broken}
 use Rattle.headers.specs.Headers.{begins}
 use Rattle.headers.specs.declared.Header.{Header}
 use Rattle.headers.specs.declared.Header.the-variants.{Known, Carried, Unknown}
 use Rattle.headers.specs.declared.Opcode.the-variants.{Noop, End, Surface, Picture, SliceGroup, Macroblock}
-use Rattle.macroblock.proofs.CaseLaws.{and-left, and-right}
 use Rattle.picture.specs.Pictures.{pictureOf, pictureRules}
 use Rattle.picture.specs.Surfaces.{surfaceOf}
 use Rattle.picture.proofs.PictureLaws.{some-columns, some-rows, wide}

@@ -4,8 +4,9 @@ use Prim.Native.Nat.{_+_}
 use native.Mathlib.Omega.{arith}
 use borrow.Author.Needs.{needs}
 use lib.ListN.{take}
+use Rattle.lists.proofs.Slices.{part-zero}
 use Rattle.batch.specs.Walk.{going, limit, walkOf}
-use Rattle.batch_code.proofs.Turns.{capped-stopped, capped-full, part-zero}
+use Rattle.batch_code.proofs.Turns.{capped-stopped, capped-full}
 use Rattle.batch_code.proofs.walking.walk.Statement.{statement}
 use Rattle.batch_code.proofs.walking.walk.Tie as tie
 

@@ -7,6 +7,7 @@ use native.Mathlib.Omega.{arith}
 use native.Mathlib.Nat.{add-zero}
 use borrow.Author.Needs.{needs}
 use lib.ListN.{length, drop, length-drop}
+use Rattle.lists.proofs.Slices.{part-rest}
 use Rattle.headers.specs.Words.{wordAt}
 use Rattle.progress.specs.declared.Verdict.{Verdict}
 use Rattle.headers.proofs.HeaderLaws.{Begun, begun-known, begun-carried}
@@ -14,7 +15,7 @@ use Rattle.rows.specs.Rows.{TakenFrom}
 use Rattle.sequence.proofs.JudgingLaws.{stops-within}
 use Rattle.batch.specs.Walk.{step, going, after}
 use Rattle.batch.proofs.WalkLaws.{stays}
-use Rattle.batch_code.proofs.RowTurn.{part-rest, turn-row}
+use Rattle.batch_code.proofs.RowTurn.{turn-row}
 use Rattle.batch_code.proofs.Turns.{turn, turn-zero, turn-behind, turn-unknown, turn-short, finished}
 use Rattle.batch_code.proofs.walking.walk_within.Statement.{statement}
 use Rattle.batch_code.proofs.walking.walk_within.Tie as tie

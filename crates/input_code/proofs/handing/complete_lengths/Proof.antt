@@ -1,17 +1,17 @@
 use mathlib.Core.List.{[], _++_, foldl}
-use mathlib.Core.Path.{_≡_, refl, sym, _∙_, ap, ap₂}
+use mathlib.Core.Path.{_≡_, sym, _∙_, ap, ap₂}
 use Prim.Native.Nat.{_+_, _-_}
 use native.Mathlib.Omega.{arith}
 use lib.ListN.{take, drop}
 use lib.Seq.{length-take-le, take-all}
+use Rattle.lists.proofs.Slices.{split, part-rest}
 use Rattle.batch.specs.Walk.{Walk}
 use Rattle.batch.specs.declared.Lengths.{Lengths}
 use Rattle.parts.specs.States.{walkIn}
 use Rattle.input.specs.Line.{lengthsOf}
 use Rattle.input.specs.Input.{Input, head, body, feed, inputIn}
-use Rattle.input.proofs.Feeding.{lengths-gathered, lengths-completed, split}
+use Rattle.input.proofs.Feeding.{lengths-gathered, lengths-completed}
 use Rattle.input_code.proofs.HeldBytes.{held-some, in-head, held-length, start-length, filled}
-use Rattle.input_code.proofs.WordLaws.{lent-rest}
 use borrow.Author.Needs.{needs}
 use Rattle.input_code.proofs.handing.complete_lengths.Statement.{statement}
 use Rattle.input_code.proofs.handing.complete_lengths.Tie as tie
@@ -87,11 +87,11 @@ returns-2 c =
     sym (take-all 32 (p .result) (omega (arith, p .ensures .1)))
     ∙ filled (a .held) need 32 (a .stream .bytes) (a .piece .now) (p .result) (p .ensures .1) (omega arith) enough size (p .ensures .0) in
     c .from-word .ensures
-    ∙ ap (foldl feed (body (b .result .lengths) (walkIn (b .result)) [])) (lent-rest need _ (a .piece .now) refl)
+    ∙ ap (foldl feed (body (b .result .lengths) (walkIn (b .result)) [])) (part-rest need (a .piece .now))
     ∙ ap (λ (x : Input). foldl feed x (drop need (a .piece .now)))
     (ap₂ (λ (l : Lengths) (w : Walk). body l w []) (b .ensures .1 ∙ c .before .before .before .lengths-of .ensures ∙ ap lengthsOf whole) (b .ensures .0)
     ∙ sym (lengths-completed g (take need (a .piece .now)) (omega arith) (omega arith)))
-    ∙ sym (split (head g) need (a .piece .now))
+    ∙ sym (split feed (head g) need (a .piece .now))
     ∙ ap (λ (x : Input). foldl feed x (a .piece .now)) (sym (was s))
 
 pub complete-lengths-spec : {M : Type 1} → statement M

@@ -1,18 +1,18 @@
 use mathlib.Core.List.{[], foldl}
-use mathlib.Core.Path.{_≡_, refl, sym, _∙_, ap, ap₂}
+use mathlib.Core.Path.{_≡_, sym, _∙_, ap, ap₂}
 use Prim.Native.Nat.{_+_, _-_}
 use native.Mathlib.Omega.{arith}
 use lib.ListN.{length, take, drop}
 use lib.Seq.{length-take-le}
+use Rattle.lists.proofs.Slices.{split, part-rest}
 use Rattle.fields.specs.Bytes.{numberOf}
 use Rattle.fields.proofs.Elements.{elements-take}
 use Rattle.batch.specs.Walk.{Walk, step}
 use Rattle.batch.specs.declared.Lengths.{Lengths}
 use Rattle.parts.specs.States.{walkIn}
 use Rattle.input.specs.Input.{Input, body, feed}
-use Rattle.input.proofs.Feeding.{word-gathered, word-completed, split}
+use Rattle.input.proofs.Feeding.{word-gathered, word-completed}
 use Rattle.input_code.proofs.HeldBytes.{held-length, start-length, filled}
-use Rattle.input_code.proofs.WordLaws.{lent-rest}
 use borrow.Author.Needs.{needs}
 use Rattle.input_code.proofs.handing.complete_word.Statement.{statement}
 use Rattle.input_code.proofs.handing.complete_word.Tie as tie
@@ -101,11 +101,11 @@ returns-2 c =
     let whole = filled (a .held) need 4 (a .old) (a .piece .now) (p .result) (p .ensures .1) (omega arith) enough size (p .ensures .0) in
     let word = c .before .before .before .before .word-at .ensures ∙ ap numberOf (elements-take (p .result) 4 (omega (arith, p .ensures .1)) ∙ whole) in
     c .from-word .ensures
-    ∙ ap (foldl feed (body (h .result .lengths) (walkIn (h .result)) [])) (lent-rest need _ (a .piece .now) refl)
+    ∙ ap (foldl feed (body (h .result .lengths) (walkIn (h .result)) [])) (part-rest need (a .piece .now))
     ∙ ap (λ (x : Input). foldl feed x (drop need (a .piece .now)))
     (ap₂ (λ (l : Lengths) (w : Walk). body l w []) (h .ensures .1) (h .ensures .0 ∙ ap (step w) word)
     ∙ sym (word-completed l w g (take need (a .piece .now)) (omega arith) (omega arith)))
-    ∙ sym (split (body l w g) need (a .piece .now))
+    ∙ sym (split feed (body l w g) need (a .piece .now))
 
 pub complete-word-spec : {M : Type 1} → statement M
 complete-word-spec =

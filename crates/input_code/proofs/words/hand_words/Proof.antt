@@ -5,11 +5,12 @@ use native.Mathlib.Omega.{arith}
 use borrow.Author.Needs.{needs}
 use lib.ListN.{length, drop, length-drop}
 use lib.Seq.{length-take-le}
+use Rattle.lists.proofs.Slices.{part-rest}
 use Rattle.batch.specs.Walk.{Walk}
 use Rattle.batch.specs.declared.Lengths.{Lengths}
 use Rattle.parts.specs.States.{walkIn}
 use Rattle.input.specs.Input.{body, feed}
-use Rattle.input_code.proofs.WordLaws.{words-on, lent-rest, few-held}
+use Rattle.input_code.proofs.WordLaws.{words-on, few-held}
 use Rattle.input_code.proofs.words.hand_words.Statement.{statement}
 use Rattle.input_code.proofs.words.hand_words.Tie as tie
 
@@ -108,7 +109,7 @@ hold-requires c κs =
     let piece = c .before .before .before .before .before .args .piece .now in
     let few = c .before .loop-test .left in
     let len = length-drop (l .at) piece in
-    rw (lent-rest (l .at) (length piece) piece refl) (omega arith)
+    rw (part-rest (l .at) piece) (omega arith)
 
 same-length : tie.Need-same-length Inv-loop μ-loop
 same-length c = c .before .before .before .loop .inv .1 .0
@@ -120,7 +121,7 @@ returns c =
     let few = c .before .before .loop-test .left in
     let len = length-drop (l .at) (a .piece .now) in
     c .hold .ensures
-    ∙ ap (body (l .state .lengths) (walkIn (l .state))) (lent-rest (l .at) _ (a .piece .now) refl)
+    ∙ ap (body (l .state .lengths) (walkIn (l .state))) (part-rest (l .at) (a .piece .now))
     ∙ ap (λ (x : Lengths). body x (walkIn (l .state)) (drop (l .at) (a .piece .now))) (l .inv .1 .1 .0)
     ∙ sym (few-held (a .state .lengths) (walkIn (l .state)) (drop (l .at) (a .piece .now)) (omega arith))
     ∙ l .inv .1 .1 .1

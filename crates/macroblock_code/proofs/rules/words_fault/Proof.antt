@@ -1,6 +1,7 @@
 use mathlib.Core.Path.{ap, _∙_}
+use Rattle.lists.proofs.Booleans.{same-both}
 use Rattle.answers.specs.Answers.{judged}
-use Rattle.macroblock.proofs.Congruence.{same-both, same-fields}
+use Rattle.macroblock.proofs.Congruence.{same-fields}
 use borrow.Author.Needs.{needs}
 use Rattle.macroblock_code.proofs.rules.words_fault.Statement.{statement}
 use Rattle.macroblock_code.proofs.rules.words_fault.Tie as tie

@@ -5,11 +5,12 @@ use native.Mathlib.Omega.{arith}
 use borrow.Author.Needs.{needs}
 use lib.ListN.{length, take, length-map}
 use lib.Seq.{length-take-le}
+use Rattle.lists.proofs.Slices.{part-rest}
 use Rattle.headers.specs.Words.{wordAt}
 use Rattle.headers.proofs.HeaderLaws.{words-few}
 use Rattle.batch.specs.Walk.{going, step}
 use Rattle.parts.specs.States.{walkIn}
-use Rattle.parts_code.proofs.HeldLaws.{asked, held-fewer, from-held, held-completed, then-stopped, then-going, part-rest, filled}
+use Rattle.parts_code.proofs.HeldLaws.{asked, held-fewer, from-held, held-completed, then-stopped, then-going, filled}
 use Rattle.parts_code.proofs.handing.complete.Statement.{statement}
 use Rattle.parts_code.proofs.handing.complete.Tie as tie
 

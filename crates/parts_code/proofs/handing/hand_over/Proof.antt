@@ -3,8 +3,9 @@ use Prim.Native.Nat.{ℕ, _≤_}
 use native.Mathlib.Omega.{arith}
 use borrow.Author.Needs.{needs}
 use lib.ListN.{length}
+use Rattle.lists.proofs.Slices.{no-length}
 use Rattle.parts.specs.States.{gathered}
-use Rattle.parts_code.proofs.HeldLaws.{no-length, stopped-stays, from-none}
+use Rattle.parts_code.proofs.HeldLaws.{stopped-stays, from-none}
 use Rattle.parts_code.proofs.handing.hand_over.Statement.{statement}
 use Rattle.parts_code.proofs.handing.hand_over.Tie as tie
 

@@ -4,9 +4,10 @@ use native.Mathlib.Nat.{zero-add}
 use native.Mathlib.Omega.{arith}
 use borrow.Author.Needs.{needs}
 use lib.ListN.{length, take, drop, length-drop}
+use Rattle.lists.proofs.Slices.{part-rest}
 use Rattle.batch.specs.Walk.{limit, walkOf}
 use Rattle.parts.specs.States.{gathered, walkIn}
-use Rattle.parts_code.proofs.HeldLaws.{Rest, rest, rest-kept, part-rest}
+use Rattle.parts_code.proofs.HeldLaws.{Rest, rest, rest-kept}
 use Rattle.parts_code.proofs.handing.walk_on.Statement.{statement}
 use Rattle.parts_code.proofs.handing.walk_on.Tie as tie
 

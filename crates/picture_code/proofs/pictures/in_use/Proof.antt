@@ -1,5 +1,5 @@
-use Rattle.macroblock.proofs.Congruence.{same-both}
 use borrow.Author.Needs.{needs}
+use Rattle.lists.proofs.Booleans.{same-both}
 use Rattle.picture_code.proofs.pictures.in_use.Statement.{statement}
 use Rattle.picture_code.proofs.pictures.in_use.Tie as tie
 

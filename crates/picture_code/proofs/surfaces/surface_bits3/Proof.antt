@@ -1,5 +1,5 @@
-use Rattle.macroblock.proofs.Congruence.{same-both}
 use borrow.Author.Needs.{needs}
+use Rattle.lists.proofs.Booleans.{same-both}
 use Rattle.picture_code.proofs.surfaces.surface_bits3.Statement.{statement}
 use Rattle.picture_code.proofs.surfaces.surface_bits3.Tie as tie
 

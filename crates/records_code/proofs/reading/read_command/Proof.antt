@@ -2,10 +2,12 @@ use mathlib.Core.List.{List}
 use mathlib.Core.Path.{sym, ap, _∙_}
 use Prim.Native.Nat.{ℕ}
 use denote.Ref.{now}
+use Rattle.answers.proofs.LendingLaws.{hands-on, refuses}
+use Rattle.answers.specs.Lending.{lentAfter, roomFor}
 use Rattle.macroblock.specs.Macroblocks.{macroblockOf}
-use Rattle.records.specs.Alone.{lentAfter, roomFor, readFault, readAnswer, readRoom}
+use Rattle.records.specs.Alone.{readFault, readAnswer, readRoom}
 use Rattle.records.specs.Records.{recordOf}
-use Rattle.records.proofs.LentRoom.{refuses, hands-on, no-words, other-header, too-few, whole}
+use Rattle.records.proofs.AloneTests.{no-words, other-header, too-few, whole}
 use borrow.Author.Needs.{needs}
 use Rattle.records_code.proofs.reading.read_command.Statement.{statement}
 use Rattle.records_code.proofs.reading.read_command.Tie as tie

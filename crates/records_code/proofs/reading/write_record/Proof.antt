@@ -1,8 +1,8 @@
 use mathlib.Core.Path.{refl}
 use denote.Ref.{now}
+use Rattle.answers.proofs.LendingLaws.{copied-all, lacks-room, writes}
 use Rattle.answers.specs.declared.Answer.the-variants.{Accepted}
 use Rattle.records.specs.Records.{recordOf}
-use Rattle.records.proofs.LentRoom.{lacks-room, writes, copied-all}
 use borrow.Author.Needs.{needs}
 use Rattle.records_code.proofs.reading.write_record.Statement.{statement}
 use Rattle.records_code.proofs.reading.write_record.Tie as tie

@@ -1,9 +1,10 @@
 use mathlib.Core.Path.{sym, ap, _∙_}
 use denote.Ref.{now}
+use Rattle.answers.proofs.LendingLaws.{lacks-room, placed-all, refuses, writes}
 use Rattle.macroblock.specs.Macroblocks.{wordsOf}
 use Rattle.records.specs.Alone.{recordFault, writeAnswer, writeRoom}
 use Rattle.records.specs.Records.{macroblockIn}
-use Rattle.records.proofs.LentRoom.{refuses, lacks-room, writes, placed-all, other-length, right-length}
+use Rattle.records.proofs.AloneTests.{other-length, right-length}
 use borrow.Author.Needs.{needs}
 use Rattle.records_code.proofs.writing.write_command.Statement.{statement}
 use Rattle.records_code.proofs.writing.write_command.Tie as tie

@@ -1,6 +1,6 @@
 use mathlib.Core.Logic.{inl, inr}
-use Rattle.answers.proofs.Judging.{no}
 use borrow.Author.Needs.{needs}
+use Rattle.lists.proofs.Booleans.{no}
 use Rattle.rows_code.proofs.words.flags_keep.Statement.{statement}
 use Rattle.rows_code.proofs.words.flags_keep.Tie as tie
 

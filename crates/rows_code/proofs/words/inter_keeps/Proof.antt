@@ -1,6 +1,6 @@
 use mathlib.Core.Logic.{inl, inr}
-use Rattle.answers.proofs.Judging.{no}
 use borrow.Author.Needs.{needs}
+use Rattle.lists.proofs.Booleans.{no}
 use Rattle.rows_code.proofs.words.inter_keeps.Statement.{statement}
 use Rattle.rows_code.proofs.words.inter_keeps.Tie as tie
 

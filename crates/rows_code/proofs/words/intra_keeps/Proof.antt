@@ -1,6 +1,7 @@
 use mathlib.Core.Logic.{inl, inr}
 use mathlib.Core.Path.{refl}
-use Rattle.answers.proofs.Judging.{no, kept}
+use Rattle.lists.proofs.Booleans.{no}
+use Rattle.answers.proofs.Judging.{kept}
 use borrow.Author.Needs.{needs}
 use Rattle.rows_code.proofs.words.intra_keeps.Statement.{statement}
 use Rattle.rows_code.proofs.words.intra_keeps.Tie as tie

@@ -1,5 +1,5 @@
-use Rattle.answers.proofs.Judging.{no}
 use borrow.Author.Needs.{needs}
+use Rattle.lists.proofs.Booleans.{no}
 use Rattle.rows_code.proofs.words.zero_words.Statement.{statement}
 use Rattle.rows_code.proofs.words.zero_words.Tie as tie
 

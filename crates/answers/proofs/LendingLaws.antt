@@ -1,19 +1,14 @@
--- What is answered and what lent memory holds, in each of the three ways that an operation ends.
-use mathlib.Core.Path.{_≡_, sym, ap, _∙_}
+-- What is answered and what lent memory holds, in each of the ways that an operation ends, whatever it needs and writes.
 use mathlib.Core.List.{List, _++_}
+use mathlib.Core.Path.{_≡_, sym, ap, _∙_}
 use Prim.Native.Nat.{ℕ, _<_, _≤_}
 use native.Mathlib.Nat.{le-refl}
-use borrow.Author.Tests.{lt-ltb, le-ltb, eq-eqb, ne-eqb}
+use borrow.Author.Tests.{lt-ltb, le-ltb}
 use lib.ListN.{length, take, drop}
 use lib.Seq.{take-all}
-use Rattle.answers.specs.Answers.{judged}
+use Rattle.answers.specs.Lending.{next, lentAfter, roomFor}
 use Rattle.answers.specs.declared.Answer.{Answer}
 use Rattle.answers.specs.declared.Answer.the-variants.{Accepted, Refused}
-use Rattle.headers.specs.Headers.{macroblockHeader}
-use Rattle.headers.specs.Words.{wordAt}
-use Rattle.macroblock.specs.Rules.{commandRules}
-use Rattle.records.specs.Alone.{next, lentAfter, roomFor, readFault, recordFault}
-use Rattle.records.specs.RecordRules.{recordRules}
 
 module _ (fault : Answer) (needed : ℕ) (new room : List ℕ) where
   abbrev answer : Answer
@@ -48,30 +43,3 @@ placed-all new room out src e o = o ∙ ap (λ (x : List ℕ). x ++ drop (length
 
 pub copied-all : (new room out src : List ℕ) → src ≡ new → out ≡ take (length src) src ++ drop (length src) room → out ≡ new ++ drop (length new) room
 copied-all new room out src e o = placed-all new room out src e (o ∙ ap (λ (x : List ℕ). x ++ drop (length src) room) (take-all (length src) src (le-refl (length src))))
-
--- A command alone, in the order of its tests.
-module _ (ws : List ℕ) where
-  pub no-words : length ws ≡ 0 → readFault ws ≡ Refused 1 0
-  unfolding readFault
-  no-words e = simp (eq-eqb (length ws) 0 e)
-
-  pub other-header : (length ws ≡ 0 → ⊥) → (wordAt ws 0 ≡ macroblockHeader → ⊥) → readFault ws ≡ Refused 2 0
-  unfolding readFault
-  other-header d h = simp (ne-eqb (length ws) 0 d, ne-eqb (wordAt ws 0) macroblockHeader h)
-
-  pub too-few : (length ws ≡ 0 → ⊥) → wordAt ws 0 ≡ macroblockHeader → length ws < 9 → readFault ws ≡ Refused 1 (length ws)
-  unfolding readFault
-  too-few d e h = simp (ne-eqb (length ws) 0 d, eq-eqb (wordAt ws 0) macroblockHeader e, lt-ltb (length ws) 9 h)
-
-  pub whole : (length ws ≡ 0 → ⊥) → wordAt ws 0 ≡ macroblockHeader → 9 ≤ length ws → readFault ws ≡ judged (commandRules ws)
-  unfolding readFault
-  whole d e h = simp (ne-eqb (length ws) 0 d, eq-eqb (wordAt ws 0) macroblockHeader e, le-ltb (length ws) 9 h)
-
--- A record alone.
-pub other-length : (bs : List ℕ) → (length bs ≡ 24 → ⊥) → recordFault bs ≡ Refused 15 0
-unfolding recordFault
-other-length bs h = simp (ne-eqb (length bs) 24 h)
-
-pub right-length : (bs : List ℕ) → length bs ≡ 24 → recordFault bs ≡ judged (recordRules bs)
-unfolding recordFault
-right-length bs e = simp (eq-eqb (length bs) 24 e)

@@ -1,0 +1,23 @@
+-- Lent memory: room for what is to be written, and what it holds after an answer. What is quoted is document 01.
+use Prim.Native.Nat.{ℕ}
+use mathlib.Core.Bool.{cond}
+use mathlib.Core.List.{List, _++_}
+use lib.Dec.{ltb}
+use lib.ListN.{length, drop}
+use Rattle.answers.specs.declared.Answer.{Answer}
+use Rattle.answers.specs.declared.Answer.the-variants.{Accepted, Refused}
+
+-- The next answer where nothing was refused before it.
+abbrev pub next : Answer → Answer → Answer
+next Accepted b = b
+next (Refused n p) b = Refused n p
+
+-- What lent memory holds after an answer: what was to be written, and what stood beyond it; or all that stood there. "No
+-- refusal writes into lent memory."
+abbrev pub lentAfter : Answer → List ℕ → List ℕ → List ℕ
+lentAfter Accepted new room = new ++ drop (length new) room
+lentAfter (Refused n p) new room = room
+
+-- Room for so many bytes or words, or "14 lent room too small: bytes or words needed".
+abbrev pub roomFor : ℕ → List ℕ → Answer
+roomFor needed room = cond (ltb (length room) needed) (Refused 14 needed) Accepted

@@ -1,0 +1,6 @@
+-- for the crates above
+pub mod Booleans
+pub mod Slices
+pub mod Stepping
+-- for this crate alone
+mod Worked
