@@ -2,10 +2,11 @@
 """Checks what rt ci does not: run after it, from the repository's root, on what it left in target/.
 
 - A crate with definitions declares no function, and a crate with functions no definition: two storeys.
-- Every public function of a library has an ensures and no requires, and two must-fail edits name it: of its code, or of a definition
+- Every public function of a library has an ensures and no requires, and two wrong answers name it: one of its code, and one of a definition
   below (guards: crate::function).
-- Every must-fail edit says what it guards and why, and was refused at a fact: not because the proof no longer fits the
-  code. Where it names the law that refuses it, that law is among what failed.
+- Every wrong answer says what it guards and why. A must-fail edit tries one, or several (name: ..), each in another function; each was refused
+  at a fact, not because the proof no longer fits the code: a wrong definition by the law that it names, a wrong program in the proof of
+  the very function that it changes.
 - Every name that docs/CLAIMS.md cites stands in the file that it cites, and every edit that it cites is there.
 - No law above `prediction` unfolds one of its definitions, worked numbers apart; its code may.
 - No function between a vector word and its components divides, takes a remainder or multiplies.
@@ -43,27 +44,41 @@ def public_functions(crate):
 
 
 def edits(crate):
+    """Yields (edit file, name, fields, pairs of file and old text) of each wrong answer; one that is tried alone has its file's name."""
     for file in sorted(crate.glob('must-fail/*.edit')):
-        fields = dict(re.findall(r'^(guards|why|law): (.+)$', file.read_text(), re.M))
-        yield file, fields
+        text = file.read_text()
+        parts = re.split(r'^(?=name: )', text, flags=re.M) if re.search(r'^name: ', text, re.M) else [f'name: {file.stem}\n{text}']
+        for part in filter(str.strip, parts):
+            fields = dict(re.findall(r'^(name|guards|why|law): (.+)$', part, re.M))
+            changed, where = [], None
+            for key, value in re.findall(r'^(file|old): (.*)$', part, re.M):
+                if key == 'file':
+                    where = value
+                else:
+                    changed.append((where, value))
+            yield file, fields.get('name', ''), fields, changed
+
+
+def has_definitions(crate):
+    return (crate / 'specs').is_dir()
 
 
 def check_storeys():
     """Types, definitions and laws stand below; functions, their proofs and the laws of their loops above."""
     for crate in libraries():
         has_functions = any(re.search(r'^ *(?:pub |pub\(crate\) |extern "C" )*fn ', file.read_text(), re.M) for file in crate.glob('src/**/*.rt'))
-        if has_functions == (crate / 'specs').is_dir():
+        if has_functions == has_definitions(crate):
             faults.append(f'{crate.name}: has functions beside its definitions, or neither')
 
 
-def guarded_function(crate, fields):
-    """crate::function of what an edit guards; an edit of the code names the function alone."""
-    name = fields.get('guards', '')
-    return name if '::' in name else f'{crate.name}::{name}'
+def guarded_functions(crate, fields):
+    """crate::function of all that a wrong answer guards; one of the code names the function alone."""
+    return [name if '::' in name else f'{crate.name}::{name}' for name in fields.get('guards', '').split()]
 
 
 def check_contracts():
-    guarded = [guarded_function(crate, fields) for crate in libraries() for _, fields in edits(crate)]
+    guards = {True: set(), False: set()}  # by whether a definition is wrong or a program
+    seen = set()
     names = set()
     for crate in libraries():
         for function, contract in public_functions(crate):
@@ -73,40 +88,82 @@ def check_contracts():
                 faults.append(f'{name} has a requires')
             if 'ensures' not in contract:
                 faults.append(f'{name} says nothing of its answer')
-            if guarded.count(name) < 2:
-                faults.append(f'{name} has {guarded.count(name)} must-fail edits, not two')
     for crate in libraries():
-        for file, fields in edits(crate):
-            if 'why' not in fields or guarded_function(crate, fields) not in names:
-                faults.append(f'{file.relative_to(root)}: says not which public function it guards, or not why')
-            if (crate / 'specs').is_dir() and 'law' not in fields:
-                faults.append(f'{file.relative_to(root)}: makes a definition wrong and names no law that refuses it')
+        for file, edit, fields, changed in edits(crate):
+            where = f'{file.relative_to(root)}: {edit}'
+            guarded = guarded_functions(crate, fields)
+            guards[has_definitions(crate)].update(guarded)
+            if (crate, edit) in seen:
+                faults.append(f'{where} stands there twice')
+            seen.add((crate, edit))
+            if 'why' not in fields or not guarded or not changed or set(guarded) - names:
+                faults.append(f'{where} says not which public function it guards, or not why')
+            if has_definitions(crate) != ('law' in fields):
+                faults.append(f'{where}: a wrong definition names the law that refuses it, and a wrong program none')
+    for name in sorted(names):
+        for wrong, kind in ((True, 'definition'), (False, 'program')):
+            if name not in guards[wrong]:
+                faults.append(f'{name} has no must-fail edit with a wrong {kind}')
     return len(names)
+
+
+def functions(crate):
+    """Yields (file, module path, name, text, first line, last line) of each function of a crate."""
+    for file in sorted(crate.glob('src/**/*.rt')):
+        path = file.relative_to(crate / 'src').with_suffix('').parts
+        module = [] if path[-1] in ('lib', 'main') else list(path)
+        lines = file.read_text().split('\n')
+        for i, line in enumerate(lines):
+            if m := re.match(r'(?:pub(?:\(crate\))? )?(?:extern "C" )?fn (\w+)', line):
+                end = lines.index('}', i)
+                yield str(file.relative_to(crate)), module, m[1], '\n'.join(lines[i:end + 1]), i + 1, end + 1
 
 
 # An edit that only makes a proof file unfit for the code shows nothing.
 UNFIT = ('that can be named from here', 'is not a name', 'not in scope', 'Scope', 'Parse', 'no field', 'was not admitted')
 
 
+def errors_in(log):
+    """(file, line, message) of each error of a log, in its order."""
+    text = log.read_text().replace(f'{log.parent}/', '')
+    return [(f, int(n), m) for f, n, m in re.findall(r'^(?:note: )?((?:src|specs|proofs)/\S+?):(\d+):\d+: (.*)$', text, re.M)]
+
+
+def refused_by_law(found, fields):
+    where, law = fields['law'].split()
+    return any(f == where and f'`{law}`' in m for f, _, m in found)
+
+
+def refused_in_function(crate, found, fields, changed, log):
+    """The first error in the proof of a function that is changed is a fact, and the function is not proved."""
+    own = [x for x in functions(crate) if any(x[0] == f and old in x[3] for f, old in changed)]
+    own = own or [x for x in functions(crate) if x[2] in fields['guards'].split()]
+    for file, module, name, _, first, last in own:
+        proof = 'proofs/' + '/'.join(module + [name, 'Proof.antt'])
+        own_errors = [m for f, n, m in found if f == proof or (f == file and first <= n <= last)]
+        verdict = re.search(rf'^fn {"::".join([crate.name] + module + [name])}: (.*)$', log.read_text(), re.M)
+        if own_errors and not any(word in own_errors[0] for word in UNFIT) and verdict and verdict[1] != 'proved':
+            return True
+    return False
+
+
 def check_refusals():
     count = 0
     for crate in sorted(root.glob('crates/*')):
-        for file, fields in edits(crate):
+        for file, edit, fields, changed in edits(crate):
             log = root / 'target' / 'must-fail' / crate.name / file.stem / '.log'
+            where = f'{file.relative_to(root)}: {edit}'
             if not log.exists():
-                faults.append(f'{file.relative_to(root)}: rt ci left no log of it')
+                faults.append(f'{where}: rt ci left no log of it')
                 continue
             count += 1
-            text = log.read_text().replace(f'{log.parent}/', '')
-            found = re.findall(r'^(?:note: )?((?:src|specs|proofs)/\S+?):\d+:\d+: (.*)$', text, re.M)
-            if not found:
-                faults.append(f'{file.relative_to(root)}: its log names no fact')
-            elif any(word in found[0][1] for word in UNFIT):
-                faults.append(f'{file.relative_to(root)}: refused first at {found[0][0]}: {found[0][1][:120]}')
-            if 'law' in fields:
-                where, law = fields['law'].split()
-                if not any(f == where and f'`{law}`' in m for f, m in found):
-                    faults.append(f'{file.relative_to(root)}: {law} of {where} did not refuse it')
+            found = errors_in(log)
+            if not found or any(word in found[0][2] for word in UNFIT):
+                faults.append(f'{where}: its log names no fact first: {found[0] if found else ""}')
+            elif 'law' in fields and not refused_by_law(found, fields):
+                faults.append(f'{where}: {fields["law"]} did not refuse it')
+            elif 'law' not in fields and not refused_in_function(crate, found, fields, changed, log):
+                faults.append(f'{where}: not refused at a fact in the proof of the function that it changes')
     return count
 
 
@@ -126,8 +183,9 @@ def check_claims():
         if not file.is_file() or not declares(file, name):
             faults.append(f'docs/CLAIMS.md: {name} does not stand in {path}')
     tried = re.findall(r'`(\w+)/(\w+)`', text)
+    known = {crate.name: {edit for _, edit, _, _ in edits(crate)} for crate in libraries()}
     for crate, edit in tried:
-        if not (root / 'crates' / crate / 'must-fail' / f'{edit}.edit').is_file():
+        if edit not in known.get(crate, ()):
             faults.append(f'docs/CLAIMS.md: there is no edit {crate}/{edit}')
     return len(cited) + len(tried)
 
@@ -187,10 +245,18 @@ def check_paths():
 
 
 check_storeys()
-functions, refusals, claims, laws, halves, files = check_contracts(), check_refusals(), check_claims(), check_unfolding(), check_halves(), check_paths()
-if min(functions, refusals, claims, laws, halves, files) == 0:
-    faults.append('nothing was checked: no public function, no refusal, no claim, no law or no file was found')
+counts = {
+    'public functions': check_contracts(),
+    'refused wrong answers': check_refusals(),
+    'citations': check_claims(),
+    'laws and proofs above prediction': check_unfolding(),
+    'functions between a word and its components': check_halves(),
+    'files': check_paths(),
+}
+for what, count in counts.items():
+    if count == 0:
+        faults.append(f'nothing was checked: no {what} were found')
 for fault in faults:
     print(f'repository: {fault}')
-print(f'repository: {functions} public functions, {refusals} refused edits, {claims} citations, {files} files, {len(faults)} faults')
+print('repository: ' + ', '.join(f'{count} {what}' for what, count in counts.items()) + f', {len(faults)} faults')
 sys.exit(1 if faults else 0)

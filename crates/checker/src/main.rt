@@ -1,5 +1,5 @@
 // Reads the lengths of the four picture buffers and a batch from standard input, and prints the checker's line. What is read and
-// what is printed for it: the crate `stream`.
+// what is printed for it: the crate `input`.
 use input::Line;
 use libc::STDERR_FILENO;
 use libc::STDIN_FILENO;

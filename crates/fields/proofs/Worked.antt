@@ -1,7 +1,8 @@
 -- Fields of words that document 01's case P1 holds, computed from the definitions.
 use mathlib.Core.Path.{_≡_, refl}
 use mathlib.Core.List.{[], _∷_}
-use Rattle.fields.specs.Word.{bits, withBits, halvesOf}
+use mathlib.Core.Bool.{true, false}
+use Rattle.fields.specs.Word.{bits, hasBits, zeroBits, withBits, halvesOf}
 use Rattle.fields.specs.Bytes.{bytesOf, numberOf}
 use Rattle.fields.proofs.Fields.{halves}
 
@@ -9,6 +10,11 @@ use Rattle.fields.proofs.Fields.{halves}
 surface : bits 0x003c00f0 31 18 ∷ bits 0x003c00f0 17 4 ∷ bits 0x480003fb 31 28 ∷ bits 0x480003fb 27 27 ∷ bits 0x480003fb 19 3 ∷ bits 0x480003fb 1 0 ∷ []
     ≡ 15 ∷ 15 ∷ 4 ∷ 1 ∷ 127 ∷ 3 ∷ []
 surface = refl
+
+-- "31:28 = 4, .. 26:20 zero, .. 1:0 = 3": they have these values, and not others
+fixed : hasBits 0x480003fb 31 28 4 ∷ hasBits 0x480003fb 1 0 3 ∷ hasBits 0x480003fb 1 0 2 ∷ zeroBits 0x480003fb 26 20 ∷ zeroBits 0x480003fb 19 3 ∷ []
+    ≡ true ∷ true ∷ false ∷ true ∷ false ∷ []
+fixed = refl
 
 -- the same words, packed
 packed : withBits (withBits 0 17 4 15) 31 18 15 ∷ withBits (withBits (withBits (withBits 0 1 0 3) 19 3 127) 27 27 1) 31 28 4 ∷ []
