@@ -13,7 +13,7 @@ use Rattle.progress.specs.declared.Progress.{Progress}
 use Rattle.progress.specs.declared.Verdict.{Verdict}
 use Rattle.progress.specs.declared.Verdict.the-variants.{Next, Stop}
 use Rattle.batch.specs.Demand.{KeepsOthers, IsLength, reportedFor, TooShort, AllEnough, NamesLowest, Demand3, Checked}
-use Rattle.batch.specs.Reports.{numberOf, placeOf, lengthsIn, reportedOf, measured, concluding, verdictOf, report}
+use Rattle.batch.specs.Reports.{reportNumber, reportPlace, lengthsIn, reportedOf, measured, concluding, verdictOf, report}
 use Rattle.batch.specs.Touched.{Touched}
 use Rattle.batch.specs.declared.Lengths.{Lengths}
 use Rattle.batch.specs.declared.Report.{Report}
@@ -24,7 +24,7 @@ use Rattle.batch.proofs.Numbers.{verdict-numbers}
 use Rattle.batch.proofs.Runs.{gone-through}
 
 -- A batch that passes keeps every rule.
-pub passed-keeps : (r : Report) → numberOf r ≡ 0 → KeepsOthers r
+pub passed-keeps : (r : Report) → reportNumber r ≡ 0 → KeepsOthers r
 passed-keeps r e = record { none-to-12 = λ h i. omega arith; not-27 = λ h. omega arith }
 
 -- A batch that keeps every rule but the one on buffer length has come to its END.
@@ -101,19 +101,19 @@ module _ (ws : List ℕ) (e : Extents) (Room : Type 0) (settle : Report → Repo
       by (enough all m) = is ∙ ap settle m
       by (short c s low m) = absurd (let k = h c in let f = for c in omega arith)
 
-  passing : Room → AllEnough r l → numberOf r ≡ 0
+  passing : Room → AllEnough r l → reportNumber r ≡ 0
   passing room h = by (settles .accepts e)
     where
-      by : Accepts Room e (settle (Accepted e)) → numberOf r ≡ 0
-      by (inl s) = ap numberOf (all-long h ∙ s)
+      by : Accepts Room e (settle (Accepted e)) → reportNumber r ≡ 0
+      by (inl s) = ap reportNumber (all-long h ∙ s)
       by (inr s) = absurd (s .0 room)
 
-  only : numberOf r ≡ 0 → AllEnough r l
+  only : reportNumber r ≡ 0 → AllEnough r l
   only passed = by (outcome e l)
     where
       by : Outcome e l → AllEnough r l
       by (enough all m) = λ b. let k = all b in let f = for b in omega arith
-      by (short c s low m) = absurd (let n = ap numberOf (is ∙ ap settle m ∙ settles .keeps-13 (bufferNumber c) e) in omega (arith, n, passed))
+      by (short c s low m) = absurd (let n = ap reportNumber (is ∙ ap settle m ∙ settles .keeps-13 (bufferNumber c) e) in omega (arith, n, passed))
 
   names : (b : Buffer) → TooShort r l b → NamesLowest r l
   names b t = by (outcome e l)
@@ -123,9 +123,9 @@ module _ (ws : List ℕ) (e : Extents) (Room : Type 0) (settle : Report → Repo
       by (short c s low m) =
           let q = is ∙ ap settle m ∙ settles .keeps-13 (bufferNumber c) e in
           record {
-            is-13 = ap numberOf q;
+            is-13 = ap reportNumber q;
             named = c;
-            at-place = ap placeOf q;
+            at-place = ap reportPlace q;
             too-short = let f = for c in omega arith;
             lowest = λ d h. let k = low d h in let f = for d in omega arith;
           }

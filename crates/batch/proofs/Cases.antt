@@ -22,7 +22,7 @@ use Rattle.placement.specs.Progressing.{positionAfter, stageAfter, extentsAfter
 use Rattle.sequence.specs.Sequence.{surfaceNext, pictureNext, groupNext, endNext}
 use Rattle.sequence.specs.Judging.{rulesOf, nextOf, judge}
 use Rattle.batch.specs.Walk.{after, step}
-use Rattle.batch.specs.Reports.{numberOf, placeOf, reportedOf, bufferRules, measured, verdictOf, report}
+use Rattle.batch.specs.Reports.{reportNumber, reportPlace, reportedOf, bufferRules, measured, verdictOf, report}
 use Rattle.batch.specs.declared.Lengths.{Lengths}
 use Rattle.batch.specs.declared.Report.{Report}
 
@@ -132,7 +132,7 @@ abbrev recordAt : List ℕ → ℕ → List ℕ
 recordAt ws at = recordOf (macroblockOf (take 9 (drop at ws)))
 
 abbrev shown : Report → List ℕ
-shown r = numberOf r ∷ placeOf r ∷ reportedOf r
+shown r = reportNumber r ∷ reportPlace r ∷ reportedOf r
 
 -- What the definitions answer, and what document 01 says: number, place and lengths, then the records.
 abbrev answered : Case → List (List ℕ)

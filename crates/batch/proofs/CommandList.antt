@@ -24,7 +24,7 @@ use Rattle.placement.proofs.PositionLaws.{own-position, in-group, position-of}
 use Rattle.sequence.specs.Judging.{rulesOf, nextOf, judge}
 use Rattle.sequence.proofs.JudgingLaws.{goes-on}
 use Rattle.sequence.proofs.SequenceLaws.{macroblock-rules, all-come, said-next, surface-once, picture-once, Sound, fresh-sound, countOf, sound-next}
-use Rattle.batch.specs.Commands.{Command, commandsOf, macroblocksIn, lastSaid, frameOf, pictureIn, InOrder, howMany}
+use Rattle.batch.specs.Commands.{Command, commandsOf, macroblocksIn, lastSaid, batchFrame, batchPicture, InOrder, howMany}
 use Rattle.batch.specs.Walk.{going, step, start}
 use Rattle.batch.proofs.Runs.{Run, batch-runs}
 
@@ -157,13 +157,13 @@ in-order-at w j (m ∷ ms) (suc k) o l =
 pub record Listed (ws : List ℕ) (p : Progress) : Type 0 where
   pub count : countOf p ≡ length (macroblocksIn (commandsOf ws))
   pub order : (k : ℕ) → k < length (macroblocksIn (commandsOf ws))
-      → (macroblockOf (getD (macroblocksIn (commandsOf ws)) k []) .column ≡ k % pictureIn ws .grid .columns)
-      × (macroblockOf (getD (macroblocksIn (commandsOf ws)) k []) .row ≡ k / pictureIn ws .grid .columns)
-  pub frame : p .frame ≡ frameOf ws
-  pub picture : p .picture ≡ pictureIn ws
+      → (macroblockOf (getD (macroblocksIn (commandsOf ws)) k []) .column ≡ k % batchPicture ws .grid .columns)
+      × (macroblockOf (getD (macroblocksIn (commandsOf ws)) k []) .row ≡ k / batchPicture ws .grid .columns)
+  pub frame : p .frame ≡ batchFrame ws
+  pub picture : p .picture ≡ batchPicture ws
   pub surfaces : howMany Surface (commandsOf ws) ≤ 1
   pub pictures : howMany Picture (commandsOf ws) ≤ 1
-  pub full : p .stage .ended ≡ true → length (macroblocksIn (commandsOf ws)) ≡ pictureIn ws .grid .rows * pictureIn ws .grid .columns
+  pub full : p .stage .ended ≡ true → length (macroblocksIn (commandsOf ws)) ≡ batchPicture ws .grid .rows * batchPicture ws .grid .columns
 
 nothing-yet : countOf fresh ≡ 0
 unfolding fresh
@@ -179,7 +179,7 @@ listed ws at p g e =
     let order = rw (none, picture) at (run-order fresh cs p r fresh-sound) in
     record {
       count = count;
-      order = λ k l. rw (zero-add k) at (in-order-at (pictureIn ws .grid .columns) 0 (macroblocksIn cs) k order l);
+      order = λ k l. rw (zero-add k) at (in-order-at (batchPicture ws .grid .columns) 0 (macroblocksIn cs) k order l);
       frame = run-said Surface surfaceOf (λ p. p .frame) (λ p. p .stage .surfaced) surfaces-once fresh cs p r;
       picture = picture;
       surfaces = let h = run-once Surface surfaceOf (λ p. p .frame) (λ p. p .stage .surfaced) surfaces-once fresh cs p r in within-one (flag (fresh .stage .surfaced)) (howMany Surface cs) h;

@@ -26,7 +26,7 @@ use Rattle.placement.proofs.TouchLaws.{next-exact}
 use Rattle.sequence.specs.Judging.{judge}
 use Rattle.sequence.proofs.JudgingLaws.{goes-on}
 use Rattle.sequence.proofs.SequenceLaws.{macroblock-rules, macroblock-next, others-touch-nothing, Sound, fresh-sound, countOf}
-use Rattle.batch.specs.Commands.{Command, commandsOf, macroblocksIn, frameOf, pictureIn}
+use Rattle.batch.specs.Commands.{Command, commandsOf, macroblocksIn, batchFrame, batchPicture}
 use Rattle.batch.specs.Touched.{positionIn, Touched}
 use Rattle.batch.specs.Walk.{going, step, start}
 use Rattle.batch.proofs.CommandList.{frame-kept, picture-kept, next-sound, listed}
@@ -142,18 +142,18 @@ module _ (b : Buffer) where
   touched-exact ws at p g e =
       let r = batch-runs ws at p g e in
       let l = listed ws at p g e in
-      let all : Exact (λ (byte : ℕ). ⊥ ⊎ From (frameOf ws .surface) (pictureIn ws .grid .columns) 0 (macroblocksIn (commandsOf ws)) byte) (extentOf b (p .extents)) =
+      let all : Exact (λ (byte : ℕ). ⊥ ⊎ From (batchFrame ws .surface) (batchPicture ws .grid .columns) 0 (macroblocksIn (commandsOf ws)) byte) (extentOf b (p .extents)) =
       rw (start-count, l .frame, l .picture) at (run-exact fresh (commandsOf ws) p r fresh-sound none-yet) in
       exact-same to back all
     where
       ms : List (List ℕ)
       ms = macroblocksIn (commandsOf ws)
 
-      to : (byte : ℕ) → ⊥ ⊎ From (frameOf ws .surface) (pictureIn ws .grid .columns) 0 ms byte → Touched ws b byte
+      to : (byte : ℕ) → ⊥ ⊎ From (batchFrame ws .surface) (batchPicture ws .grid .columns) 0 ms byte → Touched ws b byte
       to byte (inl h) = absurd h
       to byte (inr h) =
-          let k = to-k (frameOf ws .surface) (pictureIn ws .grid .columns) 0 ms byte h in
+          let k = to-k (batchFrame ws .surface) (batchPicture ws .grid .columns) 0 ms byte h in
           record { k = k .0; comes = k .1; touches = rw (zero-add (k .0)) at (k .2) }
 
-      back : (byte : ℕ) → Touched ws b byte → ⊥ ⊎ From (frameOf ws .surface) (pictureIn ws .grid .columns) 0 ms byte
-      back byte t = inr (from-k (frameOf ws .surface) (pictureIn ws .grid .columns) 0 ms byte (t .k) (t .comes) (rw (zero-add (t .k)) (t .touches)))
+      back : (byte : ℕ) → Touched ws b byte → ⊥ ⊎ From (batchFrame ws .surface) (batchPicture ws .grid .columns) 0 ms byte
+      back byte t = inr (from-k (batchFrame ws .surface) (batchPicture ws .grid .columns) 0 ms byte (t .k) (t .comes) (rw (zero-add (t .k)) (t .touches)))

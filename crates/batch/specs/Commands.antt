@@ -51,11 +51,11 @@ lastSaid o says before [] = before
 lastSaid o says before (c ∷ cs) = lastSaid o says (cond (begins o (c .header)) (says (c .words)) before) cs
 
 -- The batch's surface and picture: what its SURFACE and its PICTURE say.
-abbrev pub frameOf : List ℕ → frames.Frame
-frameOf ws = lastSaid Surface surfaceOf (fresh .frame) (commandsOf ws)
+abbrev pub batchFrame : List ℕ → frames.Frame
+batchFrame ws = lastSaid Surface surfaceOf (fresh .frame) (commandsOf ws)
 
-abbrev pub pictureIn : List ℕ → pictures.Picture
-pictureIn ws = lastSaid Picture pictureOf (fresh .picture) (commandsOf ws)
+abbrev pub batchPicture : List ℕ → pictures.Picture
+batchPicture ws = lastSaid Picture pictureOf (fresh .picture) (commandsOf ws)
 
 -- Document 01: "The k-th macroblock, from 0, is at column k mod W, row k div W." Of macroblocks in order, the first the k-th.
 abbrev pub InOrder : ℕ → ℕ → List (List ℕ) → Type 0

@@ -5,15 +5,15 @@ use mathlib.Core.Logic.{_⊎_}
 use mathlib.Core.Path.{_≡_}
 use lib.ListN.{getD}
 use Rattle.progress.specs.Buffers.{Buffer, bufferNumber}
-use Rattle.batch.specs.Reports.{numberOf, placeOf, reportedOf, lengthOf, report}
+use Rattle.batch.specs.Reports.{reportNumber, reportPlace, reportedOf, lengthOf, report}
 use Rattle.batch.specs.Touched.{Touched}
 use Rattle.batch.specs.declared.Lengths.{Lengths}
 use Rattle.batch.specs.declared.Report.{Report}
 
 -- "any batch that keeps every rule but the one on buffer length". Document 01: "when none of 1 to 12 and 27 falls on it".
 pub record KeepsOthers (r : Report) : Type 0 where
-  pub none-to-12 : 1 ≤ numberOf r → numberOf r ≤ 12 → ⊥
-  pub not-27 : numberOf r ≡ 27 → ⊥
+  pub none-to-12 : 1 ≤ reportNumber r → reportNumber r ≤ 12 → ⊥
+  pub not-27 : reportNumber r ≡ 27 → ⊥
 
 -- "zero if the batch touches no byte of it, otherwise one more than the highest byte that any sample read or written by any
 -- macroblock occupies"
@@ -37,9 +37,9 @@ AllEnough r l = (b : Buffer) → Enough r l b
 
 -- A refusal by 13 that "names the lowest such buffer".
 pub record NamesLowest (r : Report) (l : Lengths) : Type 0 where
-  pub is-13 : numberOf r ≡ 13
+  pub is-13 : reportNumber r ≡ 13
   pub named : Buffer
-  pub at-place : placeOf r ≡ bufferNumber named
+  pub at-place : reportPlace r ≡ bufferNumber named
   pub too-short : TooShort r l named
   pub lowest : (b : Buffer) → bufferNumber b < bufferNumber named → Enough r l b
 
@@ -48,10 +48,10 @@ pub record Demand3 (ws : List ℕ) (Room : Type 0) (Answers : Lengths → Report
   -- "The checker reports one length for each of the four picture buffers: zero if .., otherwise one more than the highest byte .."
   pub exact : (l : Lengths) (r : Report) → Answers l r → (b : Buffer) → IsLength (Touched ws b) (reportedFor b r)
   -- "Short lent room apart, which is 14, the batch passes exactly when every buffer is at least as long as the length reported"
-  pub passes : (l : Lengths) (r : Report) → Answers l r → Room → AllEnough r l → numberOf r ≡ 0
-  pub only-then : (l : Lengths) (r : Report) → Answers l r → numberOf r ≡ 0 → AllEnough r l
+  pub passes : (l : Lengths) (r : Report) → Answers l r → Room → AllEnough r l → reportNumber r ≡ 0
+  pub only-then : (l : Lengths) (r : Report) → Answers l r → reportNumber r ≡ 0 → AllEnough r l
   -- "With one byte less than that in any buffer that is touched it is refused"
-  pub one-less : (l : Lengths) (r : Report) → Answers l r → (b : Buffer) (byte : ℕ) → Touched ws b byte → lengthOf b l + 1 ≡ reportedFor b r → numberOf r ≡ 0 → ⊥
+  pub one-less : (l : Lengths) (r : Report) → Answers l r → (b : Buffer) (byte : ℕ) → Touched ws b byte → lengthOf b l + 1 ≡ reportedFor b r → reportNumber r ≡ 0 → ⊥
   -- "whenever any buffer is too short the refusal is 13 and names the lowest such buffer"
   pub lowest-named : (l : Lengths) (r : Report) → Answers l r → (b : Buffer) → TooShort r l b → NamesLowest r l
   -- "Whatever the lengths beside the batch, the reported ones are the same."

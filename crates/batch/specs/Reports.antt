@@ -17,15 +17,15 @@ use Rattle.batch.specs.declared.Report.the-variants as answers
 use Rattle.batch.specs.Walk.{Walk, going, stopped, step, start}
 
 -- Document 01's number and place of each answer. "0 accepted: place 0".
-abbrev pub numberOf : Report → ℕ
-numberOf (answers.Accepted e) = 0
-numberOf (answers.Short n place e) = n
-numberOf (answers.Refused n place) = n
+abbrev pub reportNumber : Report → ℕ
+reportNumber (answers.Accepted e) = 0
+reportNumber (answers.Short n place e) = n
+reportNumber (answers.Refused n place) = n
 
-abbrev pub placeOf : Report → ℕ
-placeOf (answers.Accepted e) = 0
-placeOf (answers.Short n place e) = place
-placeOf (answers.Refused n place) = place
+abbrev pub reportPlace : Report → ℕ
+reportPlace (answers.Accepted e) = 0
+reportPlace (answers.Short n place e) = place
+reportPlace (answers.Refused n place) = place
 
 -- The four lengths, in the order of the buffers.
 abbrev pub lengthsIn : Extents → List ℕ

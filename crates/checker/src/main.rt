@@ -1,6 +1,6 @@
 // Reads the lengths of the four picture buffers and a batch from standard input, and prints the checker's line. What is read and
 // what is printed for it: the crate `input`.
-use input::Line;
+use input::OutputLine;
 use libc::STDERR_FILENO;
 use libc::STDIN_FILENO;
 use libc::STDOUT_FILENO;
@@ -14,7 +14,7 @@ fn cannot_write() {
     io::write_all(STDERR_FILENO, b"checker: cannot write to standard output\n");
 }
 
-fn print(line: Line)
+fn print(line: OutputLine)
     requires { ⌜ line .len ≤ 256 ⌝ }
 {
     let bytes = line.bytes;

@@ -16,8 +16,8 @@ use Rattle.progress.specs.declared.Verdict.the-variants.{Next}
 use Rattle.records.specs.Alone.{readAnswer, readRoom}
 use Rattle.records.specs.Layout.{recordLength}
 use Rattle.records.proofs.RoundTrips.{record-length, read-alone}
-use Rattle.batch.specs.Commands.{commandsOf, macroblocksIn, pictureIn}
-use Rattle.batch.specs.Reports.{numberOf, placeOf, reportedOf, verdictOf, report}
+use Rattle.batch.specs.Commands.{commandsOf, macroblocksIn, batchPicture}
+use Rattle.batch.specs.Reports.{reportNumber, reportPlace, reportedOf, verdictOf, report}
 use Rattle.batch.specs.declared.Lengths.{Lengths}
 use Rattle.batch.specs.declared.Report.{Report}
 use Rattle.batch.specs.declared.Report.the-variants.{Accepted, Short, Refused}
@@ -32,51 +32,51 @@ use Rattle.decoding.proofs.RoomLaws.{not-passed, unwritten, not-accepte
 -- What stands in a log after decoding a batch into it. `before` is the whole log before, `after` the whole log afterwards.
 pub record Decoded (ws before after : List ℕ) : Type 0 where
   -- W·H macroblocks have come, and their log fits
-  pub count : length (macroblocksIn (commandsOf ws)) ≡ pictureIn ws .grid .columns * pictureIn ws .grid .rows
-  pub fits : logLength (pictureIn ws .grid) ≤ length before
+  pub count : length (macroblocksIn (commandsOf ws)) ≡ batchPicture ws .grid .columns * batchPicture ws .grid .rows
+  pub fits : logLength (batchPicture ws .grid) ≤ length before
   pub same-length : length after ≡ length before
   -- "the k-th macroblock's at the k-th place": the record of the k-th MACROBLOCK command, as that command read alone gives it
   pub record-at : (k : ℕ) → k < length (macroblocksIn (commandsOf ws))
       → (readAnswer (getD (macroblocksIn (commandsOf ws)) k []) (replicate recordLength 0) ≡ alone.Accepted)
       × (take recordLength (drop (recordLength * k) after) ≡ readRoom (getD (macroblocksIn (commandsOf ws)) k []) (replicate recordLength 0))
   -- "bytes beyond stay"
-  pub beyond : drop (logLength (pictureIn ws .grid)) after ≡ drop (logLength (pictureIn ws .grid)) before
+  pub beyond : drop (logLength (batchPicture ws .grid)) after ≡ drop (logLength (batchPicture ws .grid)) before
 
 -- What a decoded batch that passes says of the check and of the room.
 module _ (needed : ℕ) (log : List ℕ) where
-  number-0 : (r : Report) → numberOf (roomed needed log r) ≡ 0 → numberOf r ≡ 0
+  number-0 : (r : Report) → reportNumber (roomed needed log r) ≡ 0 → reportNumber r ≡ 0
   number-0 (Accepted e) h = refl
   number-0 (Short n place e) h = h
   number-0 (Refused n place) h = h
 
-  room-for : (e : Extents) → numberOf (roomed needed log (Accepted e)) ≡ 0 → needed ≤ length log
+  room-for : (e : Extents) → reportNumber (roomed needed log (Accepted e)) ≡ 0 → needed ≤ length log
   room-for e h = by (ltb (length log) needed) refl h
     where
-      by : (b : Bool) → ltb (length log) needed ≡ b → numberOf (cond b (Short 14 needed e) (Accepted e)) ≡ 0 → needed ≤ length log
+      by : (b : Bool) → ltb (length log) needed ≡ b → reportNumber (cond b (Short 14 needed e) (Accepted e)) ≡ 0 → needed ≤ length log
       by true s h = let z : _≡_ {A = ℕ} 14 0 = h in absurd (omega arith)
       by false s h = ltb-false (length log) needed s
 
 -- "14 last", "13 comes after the whole batch": short room gives 14 exactly where everything else is accepted, with the bytes that
 -- are needed.
-pub short-room : (l : Lengths) (ws log : List ℕ) → numberOf (report l ws) ≡ 0 → length log < logLength (pictureIn ws .grid)
-    → (numberOf (decoded l ws log) ≡ 14) × (placeOf (decoded l ws log) ≡ logLength (pictureIn ws .grid)) × (reportedOf (decoded l ws log) ≡ reportedOf (report l ws))
+pub short-room : (l : Lengths) (ws log : List ℕ) → reportNumber (report l ws) ≡ 0 → length log < logLength (batchPicture ws .grid)
+    → (reportNumber (decoded l ws log) ≡ 14) × (reportPlace (decoded l ws log) ≡ logLength (batchPicture ws .grid)) × (reportedOf (decoded l ws log) ≡ reportedOf (report l ws))
 unfolding decoded
 short-room l ws log h s =
-    let needed = logLength (pictureIn ws .grid) in
+    let needed = logLength (batchPicture ws .grid) in
     let a = accepted-by-0 l ws h in
     let d : decoded l ws log ≡ Short 14 needed (a .0) = ap (roomed needed log) (a .1) ∙ lacking needed log (a .0) s in
-    (ap numberOf d, ap placeOf d, ap reportedOf d ∙ sym (ap reportedOf (a .1)))
+    (ap reportNumber d, ap reportPlace d, ap reportedOf d ∙ sym (ap reportedOf (a .1)))
 
-pub long-room : (l : Lengths) (ws log : List ℕ) → logLength (pictureIn ws .grid) ≤ length log → decoded l ws log ≡ report l ws
+pub long-room : (l : Lengths) (ws log : List ℕ) → logLength (batchPicture ws .grid) ≤ length log → decoded l ws log ≡ report l ws
 unfolding decoded
-long-room l ws log h = roomy (logLength (pictureIn ws .grid)) log (report l ws) h
+long-room l ws log h = roomy (logLength (batchPicture ws .grid)) log (report l ws) h
 
-pub refused-first : (l : Lengths) (ws log : List ℕ) → (numberOf (report l ws) ≡ 0 → ⊥) → decoded l ws log ≡ report l ws
+pub refused-first : (l : Lengths) (ws log : List ℕ) → (reportNumber (report l ws) ≡ 0 → ⊥) → decoded l ws log ≡ report l ws
 unfolding decoded
-refused-first l ws log h = not-accepted (logLength (pictureIn ws .grid)) log (report l ws) (not-passed (report l ws) h)
+refused-first l ws log h = not-accepted (logLength (batchPicture ws .grid)) log (report l ws) (not-passed (report l ws) h)
 
 -- "No refusal writes into lent memory."
-pub refusal-writes-nothing : (l : Lengths) (ws log : List ℕ) → (numberOf (decoded l ws log) ≡ 0 → ⊥) → decodedLog l ws log ≡ log
+pub refusal-writes-nothing : (l : Lengths) (ws log : List ℕ) → (reportNumber (decoded l ws log) ≡ 0 → ⊥) → decodedLog l ws log ≡ log
 unfolding decodedLog
 refusal-writes-nothing l ws log h = unwritten (decoded l ws log) (logOf ws) log (not-passed (decoded l ws log) h)
 
@@ -92,16 +92,16 @@ record-alone m a =
     let r = read-alone m (replicate recordLength 0) (a .header) (a .nine) (a .kept) (omega arith) in
     (r .0, r .1 ∙ append-nil (recordAlone m))
 
-pub decodes : (l : Lengths) (ws log : List ℕ) → numberOf (decoded l ws log) ≡ 0 → Decoded ws log (decodedLog l ws log)
+pub decodes : (l : Lengths) (ws log : List ℕ) → reportNumber (decoded l ws log) ≡ 0 → Decoded ws log (decodedLog l ws log)
 unfolding decoded decodedLog logOf
 decodes l ws log h =
-    let needed = logLength (pictureIn ws .grid) in
+    let needed = logLength (batchPicture ws .grid) in
     let ms = macroblocksIn (commandsOf ws) in
     let passed = number-0 needed log (report l ws) h in
     let a = accepted-by-0 l ws passed in
     let r = kept-verdict l ws (passed-keeps (report l ws) passed) in
     let count = has-ended ws (r .0) (r .1) .full in
-    let fits : needed ≤ length log = room-for needed log (a .0) (subst (λ (x : Report). numberOf (roomed needed log x) ≡ 0) (a .1) h) in
+    let fits : needed ≤ length log = room-for needed log (a .0) (subst (λ (x : Report). reportNumber (roomed needed log x) ≡ 0) (a .1) h) in
     let is : decoded l ws log ≡ Accepted (a .0) = roomy needed log (report l ws) fits ∙ a .1 in
     let after : decodedLog l ws log ≡ logOf ws ++ drop (length (logOf ws)) log = ap (λ (x : Report). logAfter x (logOf ws) log) is in
     let size : (m : List ℕ) → length (recordAlone m) ≡ recordLength = λ m. record-length (macroblockOf m) in

@@ -9,7 +9,7 @@ use borrow.Author.Tests.{ltb-true}
 use lib.Dec.{ltb}
 use lib.ListN.{length}
 use Rattle.progress.specs.declared.Extents.{Extents}
-use Rattle.batch.specs.Commands.{pictureIn}
+use Rattle.batch.specs.Commands.{batchPicture}
 use Rattle.batch.specs.Demand.{KeepsOthers, AllEnough, Demand3}
 use Rattle.batch.specs.Reports.{report}
 use Rattle.batch.specs.declared.Lengths.{Lengths}
@@ -39,7 +39,7 @@ pub demand-decoding : (ws : List ℕ) (l₀ : Lengths) (log₀ : List ℕ) → K
     → (log : List ℕ) → Demand3 ws (RoomIn log ws) (DecodedInto log ws)
 unfolding decoded
 demand-decoding ws l₀ log₀ kept log =
-    let needed = logLength (pictureIn ws .grid) in
+    let needed = logLength (batchPicture ws .grid) in
     demand-by ws (RoomIn log ws) (roomed needed log) (settles needed log) (DecodedInto log ws) (λ l r a. a) l₀ (keeps needed log₀ (report l₀ ws) kept)
 
 -- "Under any two sets of lengths that are all long enough, the answer and the records are the same": the whole log afterwards, from the

@@ -8,7 +8,7 @@ use lib.ListN.{length, drop}
 use Rattle.progress.specs.declared.Progress.{Progress}
 use Rattle.progress.specs.declared.Verdict.{Verdict}
 use Rattle.progress.specs.declared.Verdict.the-variants.{Next, Stop}
-use Rattle.batch.specs.Commands.{commandsOf, macroblocksIn, pictureIn}
+use Rattle.batch.specs.Commands.{commandsOf, macroblocksIn, batchPicture}
 use Rattle.batch.specs.Reports.{measured, concluding, verdictOf, report}
 use Rattle.batch.specs.declared.Lengths.{Lengths}
 use Rattle.batch.specs.declared.Report.{Report}
@@ -21,14 +21,14 @@ use Rattle.decoding.proofs.RoomLaws.{Other, unwritten, not-accepted, la
 
 -- What a batch that came to its END says of its picture: the progress has it, and its macroblocks are W·H.
 pub record Ended (ws : List ℕ) (p : Progress) : Type 0 where
-  pub picture : p .picture ≡ pictureIn ws
-  pub full : length (macroblocksIn (commandsOf ws)) ≡ pictureIn ws .grid .columns * pictureIn ws .grid .rows
+  pub picture : p .picture ≡ batchPicture ws
+  pub full : length (macroblocksIn (commandsOf ws)) ≡ batchPicture ws .grid .columns * batchPicture ws .grid .rows
 
 pub has-ended : (ws : List ℕ) (p : Progress) → verdictOf ws ≡ Next p → Ended ws p
 has-ended ws p e =
     let w = gone-through ws p e in
     let l = listed ws (w .0) p (w .1) (w .2) in
-    record { picture = l .picture; full = l .full (w .3) ∙ mul-comm (pictureIn ws .grid .rows) (pictureIn ws .grid .columns) }
+    record { picture = l .picture; full = l .full (w .3) ∙ mul-comm (batchPicture ws .grid .rows) (batchPicture ws .grid .columns) }
 
 module _ (l : Lengths) (ws log : List ℕ) where
   -- the answer, and the log that goes with it
@@ -39,14 +39,14 @@ module _ (l : Lengths) (ws log : List ℕ) where
   -- a rule of the batch is broken
   pub refused : (n place : ℕ) → verdictOf ws ≡ Stop n place → (Refused n place ≡ decoded l ws log) × (log ≡ decodedLog l ws log)
   unfolding decoded report
-  refused n place e = both (Refused n place) log (ap (λ (v : Verdict). roomed (logLength (pictureIn ws .grid)) log (concluding l v)) e) refl
+  refused n place e = both (Refused n place) log (ap (λ (v : Verdict). roomed (logLength (batchPicture ws .grid)) log (concluding l v)) e) refl
 
   module _ (p : Progress) (r : Report) (v : verdictOf ws ≡ Next p) (m : r ≡ measured (p .extents) l) where
     answer : (x : Report) → r ≡ x → decoded l ws log ≡ roomed (logLength (p .picture .grid)) log x
     unfolding decoded report
     answer x e =
-        ap (λ (v : Verdict). roomed (logLength (pictureIn ws .grid)) log (concluding l v)) v
-        ∙ ap (roomed (logLength (pictureIn ws .grid)) log) (sym m ∙ e)
+        ap (λ (v : Verdict). roomed (logLength (batchPicture ws .grid)) log (concluding l v)) v
+        ∙ ap (roomed (logLength (batchPicture ws .grid)) log) (sym m ∙ e)
         ∙ ap (λ x'. roomed (logLength (x' .grid)) log x) (sym (has-ended ws p v .picture))
 
     -- a buffer is too short

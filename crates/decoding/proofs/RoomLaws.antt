@@ -5,7 +5,7 @@ use Prim.Native.Nat.{ℕ, _≤_, _<_}
 use borrow.Author.Tests.{lt-ltb, le-ltb}
 use lib.ListN.{length}
 use Rattle.progress.specs.declared.Extents.{Extents}
-use Rattle.batch.specs.Reports.{numberOf}
+use Rattle.batch.specs.Reports.{reportNumber}
 use Rattle.batch.specs.declared.Report.{Report}
 use Rattle.batch.specs.declared.Report.the-variants.{Accepted, Short, Refused}
 use Rattle.decoding.specs.Logs.{roomed, logAfter}
@@ -16,7 +16,7 @@ Other (Accepted e) = ⊥
 Other (Short n place e) = Unit
 Other (Refused n place) = Unit
 
-pub not-passed : (r : Report) → (numberOf r ≡ 0 → ⊥) → Other r
+pub not-passed : (r : Report) → (reportNumber r ≡ 0 → ⊥) → Other r
 not-passed (Accepted e) h = h refl
 not-passed (Short n place e) h = tt
 not-passed (Refused n place) h = tt

@@ -9,7 +9,7 @@ use Rattle.prediction.specs.declared.Grid.{Grid}
 use Rattle.macroblock.specs.Macroblocks.{macroblockOf}
 use Rattle.records.specs.Layout.{recordLength}
 use Rattle.records.specs.Records.{recordOf}
-use Rattle.batch.specs.Commands.{commandsOf, macroblocksIn, pictureIn}
+use Rattle.batch.specs.Commands.{commandsOf, macroblocksIn, batchPicture}
 use Rattle.batch.specs.Reports.{report}
 use Rattle.batch.specs.declared.Lengths.{Lengths}
 use Rattle.batch.specs.declared.Report.{Report}
@@ -36,7 +36,7 @@ roomed needed log (Refused n place) = Refused n place
 
 -- The answer to a batch that is decoded into a log.
 unfoldable pub decoded : Lengths → List ℕ → List ℕ → Report
-decoded l ws log = roomed (logLength (pictureIn ws .grid)) log (report l ws)
+decoded l ws log = roomed (logLength (batchPicture ws .grid)) log (report l ws)
 
 -- The whole log afterwards: "bytes beyond stay"; "No refusal writes into lent memory."
 abbrev pub logAfter : Report → List ℕ → List ℕ → List ℕ
@@ -52,4 +52,4 @@ abbrev pub DecodedInto : List ℕ → List ℕ → Lengths → Report → Type 0
 DecodedInto log ws l r = r ≡ decoded l ws log
 
 abbrev pub RoomIn : List ℕ → List ℕ → Type 0
-RoomIn log ws = logLength (pictureIn ws .grid) ≤ length log
+RoomIn log ws = logLength (batchPicture ws .grid) ≤ length log

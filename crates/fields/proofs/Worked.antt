@@ -3,7 +3,7 @@ use mathlib.Core.Path.{_≡_, refl}
 use mathlib.Core.List.{[], _∷_}
 use mathlib.Core.Bool.{true, false}
 use Rattle.fields.specs.Word.{bits, hasBits, zeroBits, withBits, halvesOf}
-use Rattle.fields.specs.Bytes.{bytesOf, numberOf}
+use Rattle.fields.specs.Bytes.{bytesOf, numberIn}
 use Rattle.fields.proofs.Fields.{halves}
 
 -- SURFACE word 2: "height−1 in 31:18, width−1 in 17:4"; word 3: "31:28 = 4, 27 = 1, .. pitch−1 in 19:3, .. 1:0 = 3"
@@ -37,5 +37,5 @@ sign-bits = refl
 lowest-first : bytesOf 4 0x12345678 ≡ 0x78 ∷ 0x56 ∷ 0x34 ∷ 0x12 ∷ []
 lowest-first = refl
 
-from-lowest : numberOf (0x34 ∷ 0x12 ∷ []) ≡ 0x1234
+from-lowest : numberIn (0x34 ∷ 0x12 ∷ []) ≡ 0x1234
 from-lowest = refl

@@ -9,9 +9,9 @@ bytesOf zero n = []
 bytesOf (suc k) n = n % 256 ∷ bytesOf k (n / 256)
 
 -- The number that bytes stand for.
-abbrev pub numberOf : List ℕ → ℕ
-numberOf [] = 0
-numberOf (b ∷ bs) = b + 256 * numberOf bs
+abbrev pub numberIn : List ℕ → ℕ
+numberIn [] = 0
+numberIn (b ∷ bs) = b + 256 * numberIn bs
 
 -- The k elements of a list from index i on; 0 in place of one that is not there.
 abbrev pub elements : List ℕ → ℕ → ℕ → List ℕ

@@ -2,7 +2,7 @@
 use crate::word;
 ghost use mathlib.Core.Path.{_≡_};
 ghost use mathlib.Core.List.{[], _∷_};
-ghost use Rattle.fields.specs.Bytes.{bytesOf, numberOf};
+ghost use Rattle.fields.specs.Bytes.{bytesOf, numberIn};
 
 // The bytes of a number, lowest first.
 pub fn bytes16(n: u16) -> [u8; 2]
@@ -25,13 +25,13 @@ pub fn bytes32(n: u32) -> [u8; 4]
 
 // The number of some bytes, lowest first.
 pub fn number16(b0: u8, b1: u8) -> u16
-    ensures { λ r. ⌜ r ≡ numberOf (b0 ∷ b1 ∷ []) ⌝ }
+    ensures { λ r. ⌜ r ≡ numberIn (b0 ∷ b1 ∷ []) ⌝ }
 {
     word::with_bits(b0 as u32, 15, 8, b1 as u32) as u16
 }
 
 pub fn number32(b0: u8, b1: u8, b2: u8, b3: u8) -> u32
-    ensures { λ r. ⌜ r ≡ numberOf (b0 ∷ b1 ∷ b2 ∷ b3 ∷ []) ⌝ }
+    ensures { λ r. ⌜ r ≡ numberIn (b0 ∷ b1 ∷ b2 ∷ b3 ∷ []) ⌝ }
 {
     let low = word::with_bits(b0 as u32, 15, 8, b1 as u32);
     let three = word::with_bits(low, 23, 16, b2 as u32);

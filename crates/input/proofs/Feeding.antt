@@ -8,10 +8,10 @@ use borrow.Author.Tests.{lt-ltb, le-ltb}
 use lib.Dec.{ltb}
 use lib.ListN.{length, length-append}
 use Rattle.lists.proofs.Slices.{no-length}
-use Rattle.fields.specs.Bytes.{numberOf}
+use Rattle.fields.specs.Bytes.{numberIn}
 use Rattle.batch.specs.Walk.{Walk, step, start}
 use Rattle.batch.specs.declared.Lengths.{Lengths}
-use Rattle.input.specs.Line.{lengthsOf, wordsOf}
+use Rattle.input.specs.Line.{lengthsOf, wordsFrom}
 use Rattle.input.specs.Input.{Input, head, body, feed}
 
 -- Bytes that are gathered until there are `n` of them: `some g` while they are fewer, `all g` then.
@@ -55,16 +55,16 @@ lengths-completed = completed 32 head (λ g. body (lengthsOf g) start []) one-le
 
 -- The bytes of a word.
 one-byte : (l : Lengths) (w : Walk) (g : List ℕ) (b : ℕ)
-    → feed (body l w g) b ≡ cond (ltb (length (g ++ (b ∷ []))) 4) (body l w (g ++ (b ∷ []))) (body l (step w (numberOf (g ++ (b ∷ [])))) [])
+    → feed (body l w g) b ≡ cond (ltb (length (g ++ (b ∷ []))) 4) (body l w (g ++ (b ∷ []))) (body l (step w (numberIn (g ++ (b ∷ [])))) [])
 unfolding feed
 one-byte l w g b = refl
 
 pub word-gathered : (l : Lengths) (w : Walk) (g bs : List ℕ) → length g + length bs < 4 → foldl feed (body l w g) bs ≡ body l w (g ++ bs)
-word-gathered l w = gathered 4 (body l w) (λ g. body l (step w (numberOf g)) []) (one-byte l w)
+word-gathered l w = gathered 4 (body l w) (λ g. body l (step w (numberIn g)) []) (one-byte l w)
 
 pub word-completed : (l : Lengths) (w : Walk) (g bs : List ℕ) → 1 ≤ length bs → length g + length bs ≡ 4
-    → foldl feed (body l w g) bs ≡ body l (step w (numberOf (g ++ bs))) []
-word-completed l w = completed 4 (body l w) (λ g. body l (step w (numberOf g)) []) (one-byte l w)
+    → foldl feed (body l w g) bs ≡ body l (step w (numberIn (g ++ bs))) []
+word-completed l w = completed 4 (body l w) (λ g. body l (step w (numberIn g)) []) (one-byte l w)
 
 -- The bytes behind the whole words of some bytes.
 abbrev pub restOf : List ℕ → List ℕ
@@ -82,18 +82,18 @@ rest-length (a ∷ b ∷ c ∷ []) = refl
 rest-length (a ∷ b ∷ c ∷ d ∷ bs) = rest-length bs ∙ omega arith
 
 -- Bytes from the beginning of a word.
-pub words-fed : (l : Lengths) (w : Walk) (bs : List ℕ) → foldl feed (body l w []) bs ≡ body l (foldl step w (wordsOf bs)) (restOf bs)
+pub words-fed : (l : Lengths) (w : Walk) (bs : List ℕ) → foldl feed (body l w []) bs ≡ body l (foldl step w (wordsFrom bs)) (restOf bs)
 words-fed l w [] = refl
 words-fed l w (a ∷ []) = word-gathered l w [] (a ∷ []) (omega arith)
 words-fed l w (a ∷ b ∷ []) = word-gathered l w [] (a ∷ b ∷ []) (omega arith)
 words-fed l w (a ∷ b ∷ c ∷ []) = word-gathered l w [] (a ∷ b ∷ c ∷ []) (omega arith)
 words-fed l w (a ∷ b ∷ c ∷ d ∷ bs) =
     ap (λ (x : Input). foldl feed x bs) (word-completed l w [] (a ∷ b ∷ c ∷ d ∷ []) (omega arith) refl)
-    ∙ words-fed l (step w (numberOf (a ∷ b ∷ c ∷ d ∷ []))) bs
+    ∙ words-fed l (step w (numberIn (a ∷ b ∷ c ∷ d ∷ []))) bs
 
 -- Whole words alone.
-pub whole-fed : (l : Lengths) (w : Walk) (bs : List ℕ) → length bs % 4 ≡ 0 → foldl feed (body l w []) bs ≡ body l (foldl step w (wordsOf bs)) []
+pub whole-fed : (l : Lengths) (w : Walk) (bs : List ℕ) → length bs % 4 ≡ 0 → foldl feed (body l w []) bs ≡ body l (foldl step w (wordsFrom bs)) []
 whole-fed l w bs e =
-    words-fed l w bs ∙ ap (body l (foldl step w (wordsOf bs))) (no-length (restOf bs) (rest-length bs ∙ e))
+    words-fed l w bs ∙ ap (body l (foldl step w (wordsFrom bs))) (no-length (restOf bs) (rest-length bs ∙ e))
 
 -- some bytes by the first m of them and the others

@@ -15,9 +15,9 @@ use Rattle.batch.specs.Reports.{finish, verdictOf, report}
 use Rattle.batch.specs.Walk.{Walk, going, stopped, step, start}
 use Rattle.batch.specs.declared.Lengths.{Lengths}
 use Rattle.batch.proofs.WalkLaws.{counted}
-use Rattle.input.specs.Line.{lengthsOf, wordsOf, leftOver, answerTo, outcomeOf, lineFor, lineOf}
+use Rattle.input.specs.Line.{lengthsOf, wordsFrom, leftOver, answerTo, inputReport, reportLine, inputLine}
 use Rattle.input.specs.Input.{Input, head, body, feed, wordsThrough, finished, inputIn, bytesIn, InputHanded, InPieces}
-use Rattle.input.specs.declared.Line.{Line}
+use Rattle.input.specs.declared.OutputLine.{OutputLine}
 use Rattle.input.specs.declared.Stream.{Stream}
 use Rattle.input.proofs.Feeding.{lengths-gathered, lengths-completed, restOf, rest-length, words-fed}
 
@@ -40,15 +40,15 @@ batch-fed : (l : Lengths) (bs : List ℕ) → finished (foldl feed (body l start
 unfolding answerTo report verdictOf finish
 batch-fed l bs =
     ap finished (words-fed l start bs)
-    ∙ through (length (restOf bs)) l (wordsOf bs)
-    ∙ ap (λ (k : ℕ). leftOver k (length (wordsOf bs)) (report l (wordsOf bs))) (rest-length bs)
+    ∙ through (length (restOf bs)) l (wordsFrom bs)
+    ∙ ap (λ (k : ℕ). leftOver k (length (wordsFrom bs)) (report l (wordsFrom bs))) (rest-length bs)
 
 -- the whole input
-all-fed : (bs : List ℕ) → finished (foldl feed (head []) bs) ≡ outcomeOf bs
-unfolding outcomeOf
+all-fed : (bs : List ℕ) → finished (foldl feed (head []) bs) ≡ inputReport bs
+unfolding inputReport
 all-fed bs = by (ltb (length bs) 32) refl
   where
-    by : (t : Bool) → ltb (length bs) 32 ≡ t → finished (foldl feed (head []) bs) ≡ outcomeOf bs
+    by : (t : Bool) → ltb (length bs) 32 ≡ t → finished (foldl feed (head []) bs) ≡ inputReport bs
     by true e =
         let few = ltb-true (length bs) 32 e in
         ap finished (lengths-gathered [] bs (omega arith)) ∙ simp e
@@ -68,10 +68,10 @@ handed-both s a t b r h k = k ∙ ap (λ (x : Input). foldl feed x b) h ∙ sym 
 
 -- For every list of pieces (the empty list and empty pieces among them), whatever states the functions returned on the way, the line is
 -- that of all bytes in order.
-pub pieces-line : (pieces : List (List ℕ)) (r : Line) → InPieces pieces r → bytesIn r ≡ lineOf (flatten pieces)
-unfolding lineOf
+pub pieces-line : (pieces : List (List ℕ)) (r : OutputLine) → InPieces pieces r → bytesIn r ≡ inputLine (flatten pieces)
+unfolding inputLine
 pieces-line pieces r h =
     let t = h .2 .0 in
     h .2 .2 .0
-    ∙ ap (λ (x : Input). lineFor (finished x)) (along-whole InputHanded handed-none handed-both (h .0) pieces t (h .2 .1) ∙ ap (λ (x : Input). foldl feed x (flatten pieces)) (h .1))
-    ∙ ap lineFor (all-fed (flatten pieces))
+    ∙ ap (λ (x : Input). reportLine (finished x)) (along-whole InputHanded handed-none handed-both (h .0) pieces t (h .2 .1) ∙ ap (λ (x : Input). foldl feed x (flatten pieces)) (h .1))
+    ∙ ap reportLine (all-fed (flatten pieces))

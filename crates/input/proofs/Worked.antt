@@ -27,7 +27,7 @@ use Rattle.batch.specs.Walk.{after, step}
 use Rattle.batch.specs.Reports.{bufferRules, measured, verdictOf, report}
 use Rattle.batch.specs.declared.Report.the-variants.{Accepted}
 use Rattle.input.specs.Text.{ascii, decimal}
-use Rattle.input.specs.Line.{lengthsOf, answerTo, outcomeOf, textOf, lineOf}
+use Rattle.input.specs.Line.{lengthsOf, answerTo, inputReport, textOf, inputLine}
 
 -- numbers as bytes, k to each, lowest first
 abbrev bytes : ℕ → List ℕ → List ℕ
@@ -87,8 +87,8 @@ cases =
     ∷ record { given = input enough (0x05000000 ∷ []) ++ (0 ∷ []); line = "refuse 3 0\n" }
     ∷ []
 
-every-line : map (λ k. lineOf (k .given)) cases ≡ map (λ k. ascii (k .line)) cases
-unfolding flatten cases p1 lineOf outcomeOf answerTo decimal
+every-line : map (λ k. inputLine (k .given)) cases ≡ map (λ k. ascii (k .line)) cases
+unfolding flatten cases p1 inputLine inputReport answerTo decimal
     report verdictOf measured bufferRules step after
     judge rulesOf nextOf surfaceNext pictureNext groupNext endNext
     macroblockRules placedRules placedBy macroblockNext progressAfter extentsAfter stageAfter positionAfter

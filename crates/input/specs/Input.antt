@@ -6,15 +6,15 @@ use mathlib.Core.Path.{_≡_}
 use lib.Dec.{ltb}
 use lib.ListN.{length, take}
 use Rattle.lists.specs.Calls.{Along}
-use Rattle.fields.specs.Bytes.{numberOf}
+use Rattle.fields.specs.Bytes.{numberIn}
 use Rattle.batch.specs.Reports.{finish}
 use Rattle.batch.specs.Walk.{Walk, going, stopped, step, start}
 use Rattle.batch.specs.declared.Lengths.{Lengths}
 use Rattle.batch.specs.declared.Report.{Report}
 use Rattle.batch.specs.declared.Report.the-variants.{Refused}
 use Rattle.parts.specs.States.{walkIn}
-use Rattle.input.specs.Line.{lengthsOf, leftOver, lineFor}
-use Rattle.input.specs.declared.Line.{Line}
+use Rattle.input.specs.Line.{lengthsOf, leftOver, reportLine}
+use Rattle.input.specs.declared.OutputLine.{OutputLine}
 use Rattle.input.specs.declared.Stream.{Stream}
 
 -- `head g`: the bytes `g` of the lengths have come. `body l w g`: after the lengths `l` the whole words have led to the walk `w`, and
@@ -28,7 +28,7 @@ abbrev pub headed : List ℕ → Input
 headed g = cond (ltb (length g) 32) (head g) (body (lengthsOf g) start [])
 
 abbrev pub worded : Lengths → Walk → List ℕ → Input
-worded l w g = cond (ltb (length g) 4) (body l w g) (body l (step w (numberOf g)) [])
+worded l w g = cond (ltb (length g) 4) (body l w g) (body l (step w (numberIn g)) [])
 
 -- One more byte.
 unfoldable pub feed : Input → ℕ → Input
@@ -54,7 +54,7 @@ unfoldable pub inputIn : Stream → Input
 inputIn s = cond (s .begun) (body (s .state .lengths) (walkIn (s .state)) (heldOf 4 s)) (head (heldOf 32 s))
 
 -- The bytes of a line.
-abbrev pub bytesIn : Line → List ℕ
+abbrev pub bytesIn : OutputLine → List ℕ
 bytesIn r = take (r .len) (r .bytes)
 
 -- What a fresh input promises, what handing over a piece promises of the state that it returns, and what the answer promises.
@@ -64,9 +64,9 @@ InputBegun r = inputIn r ≡ head []
 abbrev pub InputHanded : Stream → List ℕ → Stream → Type 0
 InputHanded s piece r = inputIn r ≡ foldl feed (inputIn s) piece
 
-abbrev pub InputAnswered : Stream → Line → Type 0
-InputAnswered s r = (bytesIn r ≡ lineFor (finished (inputIn s))) × (r .len ≤ 256)
+abbrev pub InputAnswered : Stream → OutputLine → Type 0
+InputAnswered s r = (bytesIn r ≡ reportLine (finished (inputIn s))) × (r .len ≤ 256)
 
 -- A line for a list of pieces: a state was handed over along it from a fresh one, and this is answered after it.
-abbrev pub InPieces : List (List ℕ) → Line → Type 0
+abbrev pub InPieces : List (List ℕ) → OutputLine → Type 0
 InPieces pieces r = (s : Stream) × InputBegun s × ((t : Stream) × Along InputHanded s pieces t × InputAnswered t r)

@@ -4,7 +4,7 @@ use mathlib.Core.Bool.{cond}
 use mathlib.Core.List.{List, [], _∷_, _++_}
 use lib.Dec.{eqb, ltb}
 use lib.ListN.{length, take, drop}
-use Rattle.fields.specs.Bytes.{numberOf, elements}
+use Rattle.fields.specs.Bytes.{numberIn, elements}
 use Rattle.batch.specs.Reports.{lengthsIn, report}
 use Rattle.batch.specs.declared.Lengths.{Lengths}
 use Rattle.batch.specs.declared.Report.{Report}
@@ -13,7 +13,7 @@ use Rattle.input.specs.Text.{ascii, spaced}
 
 -- "four 8-byte lengths, little-endian", buffer 0 first.
 abbrev pub lengthAt : ℕ → List ℕ → ℕ
-lengthAt k bytes = numberOf (elements bytes (8 * k) 8)
+lengthAt k bytes = numberIn (elements bytes (8 * k) 8)
 
 abbrev pub lengthsOf : List ℕ → Lengths
 lengthsOf bytes = record {
@@ -24,12 +24,12 @@ lengthsOf bytes = record {
 }
 
 -- "then the batch as little-endian words": the whole words of some bytes.
-abbrev pub wordsOf : List ℕ → List ℕ
-wordsOf [] = []
-wordsOf (a ∷ []) = []
-wordsOf (a ∷ b ∷ []) = []
-wordsOf (a ∷ b ∷ c ∷ []) = []
-wordsOf (a ∷ b ∷ c ∷ d ∷ bytes) = numberOf (a ∷ b ∷ c ∷ d ∷ []) ∷ wordsOf bytes
+abbrev pub wordsFrom : List ℕ → List ℕ
+wordsFrom [] = []
+wordsFrom (a ∷ []) = []
+wordsFrom (a ∷ b ∷ []) = []
+wordsFrom (a ∷ b ∷ c ∷ []) = []
+wordsFrom (a ∷ b ∷ c ∷ d ∷ bytes) = numberIn (a ∷ b ∷ c ∷ d ∷ []) ∷ wordsFrom bytes
 
 -- "One to three leftover bytes get 1, placed at the whole words, if nothing else was refused."
 abbrev pub leftOver : ℕ → ℕ → Report → Report
@@ -39,11 +39,11 @@ leftOver bytes words (Refused n place) = Refused n place
 
 -- The answer to a batch of bytes.
 unfoldable pub answerTo : Lengths → List ℕ → Report
-answerTo l bytes = leftOver (length bytes % 4) (length (wordsOf bytes)) (report l (wordsOf bytes))
+answerTo l bytes = leftOver (length bytes % 4) (length (wordsFrom bytes)) (report l (wordsFrom bytes))
 
 -- "Standard input: four 8-byte lengths, little-endian, then the batch"; "16 fewer than 32 bytes before the batch: bytes read".
-unfoldable pub outcomeOf : List ℕ → Report
-outcomeOf bytes =
+unfoldable pub inputReport : List ℕ → Report
+inputReport bytes =
     cond (ltb (length bytes) 32) (Refused 16 (length bytes)) (answerTo (lengthsOf (take 32 bytes)) (drop 32 bytes))
 
 -- "`accept` and the four lengths, or `refuse`, number and place, and for 13 the lengths too."
@@ -53,8 +53,8 @@ textOf (Short n place e) = ascii "refuse" ++ spaced (n ∷ place ∷ lengthsIn e
 textOf (Refused n place) = ascii "refuse" ++ spaced (n ∷ place ∷ [])
 
 -- "It prints one line".
-abbrev pub lineFor : Report → List ℕ
-lineFor r = textOf r ++ ascii "\n"
+abbrev pub reportLine : Report → List ℕ
+reportLine r = textOf r ++ ascii "\n"
 
-unfoldable pub lineOf : List ℕ → List ℕ
-lineOf bytes = lineFor (outcomeOf bytes)
+unfoldable pub inputLine : List ℕ → List ℕ
+inputLine bytes = reportLine (inputReport bytes)

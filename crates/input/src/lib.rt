@@ -12,7 +12,7 @@ pub struct Stream {
 }
 
 // A line: the first `len` bytes.
-pub struct Line {
+pub struct OutputLine {
     pub bytes: [u8; 256],
     pub len: usize,
 }

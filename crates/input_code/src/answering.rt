@@ -2,7 +2,7 @@
 use crate::holding;
 use crate::printing;
 use batch::Report;
-use input::Line;
+use input::OutputLine;
 use input::Stream;
 ghost use mathlib.Core.Path.{_≡_};
 ghost use Rattle.input.specs.Input.{finished, inputIn, InputAnswered};
@@ -28,7 +28,7 @@ fn outcome(stream: Stream) -> Report
 }
 
 // The line for all bytes so far, taken as a whole input.
-pub fn answer(stream: Stream) -> Line
+pub fn answer(stream: Stream) -> OutputLine
     ensures { λ r. ⌜ InputAnswered stream r ⌝ }
 {
     printing::line_for(outcome(stream))

@@ -3,13 +3,13 @@ use batch::Lengths;
 ghost use mathlib.Core.Path.{_≡_};
 ghost use Prim.Native.Nat.{_+_, _≤_};
 ghost use lib.ListN.{length};
-ghost use Rattle.fields.specs.Bytes.{numberOf, elements};
+ghost use Rattle.fields.specs.Bytes.{numberIn, elements};
 ghost use Rattle.input.specs.Line.{lengthsOf};
 
 // The word of four bytes from byte `at` on.
 pub(crate) fn word_at(bytes: &[u8], at: usize) -> u32
     requires { ⌜ at + 4 ≤ length (now bytes) ⌝ }
-    ensures { λ r. ⌜ r ≡ numberOf (elements (now (bytes .entry)) at 4) ⌝ }
+    ensures { λ r. ⌜ r ≡ numberIn (elements (now (bytes .entry)) at 4) ⌝ }
 {
     let b0 = bytes[at];
     let b1 = bytes[at + 1];
@@ -21,7 +21,7 @@ pub(crate) fn word_at(bytes: &[u8], at: usize) -> u32
 // The number of eight bytes from byte `at` on.
 fn length_at(bytes: &[u8], at: usize) -> u64
     requires { ⌜ at + 8 ≤ length (now bytes) ⌝ }
-    ensures { λ r. ⌜ r ≡ numberOf (elements (now (bytes .entry)) at 8) ⌝ }
+    ensures { λ r. ⌜ r ≡ numberIn (elements (now (bytes .entry)) at 8) ⌝ }
 {
     let low = word_at(bytes, at);
     let high = word_at(bytes, at + 4);

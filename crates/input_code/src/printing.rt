@@ -1,6 +1,6 @@
 // A report as a line of text.
 use batch::Report;
-use input::Line;
+use input::OutputLine;
 use progress::Extents;
 ghost use mathlib.Core.Path.{_≡_};
 ghost use mathlib.Core.List.{[], _∷_, _++_};
@@ -8,11 +8,11 @@ ghost use Prim.Native.Nat.{_+_, _≤_};
 ghost use lib.ListN.{length};
 ghost use Rattle.batch.specs.Reports.{lengthsIn};
 ghost use Rattle.input.specs.Text.{ascii, decimal, spaced};
-ghost use Rattle.input.specs.Line.{textOf, lineFor};
+ghost use Rattle.input.specs.Line.{textOf, reportLine};
 ghost use Rattle.input.specs.Input.{bytesIn};
 
 // Some text behind a line's.
-fn put(line: Line, text: &[u8]) -> Line
+fn put(line: OutputLine, text: &[u8]) -> OutputLine
     requires { ⌜ line .len + length (now text) ≤ 256 ⌝ }
     ensures { λ r. ⌜ (bytesIn r ≡ bytesIn line ++ now (text .entry)) × (r .len ≡ line .len + length (now (text .entry))) ⌝ }
 {
@@ -20,11 +20,11 @@ fn put(line: Line, text: &[u8]) -> Line
     let at = line.len;
     bytes::copy(text, &mut bytes[at..]);
     let len = at + text.len();
-    Line { bytes, len }
+    OutputLine { bytes, len }
 }
 
 // A number in decimal.
-fn put_decimal(line: Line, n: u64) -> Line
+fn put_decimal(line: OutputLine, n: u64) -> OutputLine
     requires { ⌜ line .len + 20 ≤ 256 ⌝ }
     ensures { λ r. ⌜ (bytesIn r ≡ bytesIn line ++ decimal n) × (r .len ≤ line .len + 20) ⌝ }
 {
@@ -34,7 +34,7 @@ fn put_decimal(line: Line, n: u64) -> Line
 }
 
 // A number with a space before it.
-fn put_number(line: Line, n: u64) -> Line
+fn put_number(line: OutputLine, n: u64) -> OutputLine
     requires { ⌜ line .len + 21 ≤ 256 ⌝ }
     ensures { λ r. ⌜ (bytesIn r ≡ bytesIn line ++ spaced (n ∷ [])) × (r .len ≤ line .len + 21) ⌝ }
 {
@@ -42,7 +42,7 @@ fn put_number(line: Line, n: u64) -> Line
 }
 
 // The four lengths.
-fn put_lengths(line: Line, extents: Extents) -> Line
+fn put_lengths(line: OutputLine, extents: Extents) -> OutputLine
     requires { ⌜ line .len + 84 ≤ 256 ⌝ }
     ensures { λ r. ⌜ (bytesIn r ≡ bytesIn line ++ spaced (lengthsIn extents)) × (r .len ≤ line .len + 84) ⌝ }
 {
@@ -53,15 +53,15 @@ fn put_lengths(line: Line, extents: Extents) -> Line
 }
 
 // An empty line.
-fn empty() -> Line
+fn empty() -> OutputLine
     ensures { λ r. ⌜ (bytesIn r ≡ []) × (r .len ≡ 0) ⌝ }
 {
     let bytes = [0u8; 256];
-    Line { bytes, len: 0 }
+    OutputLine { bytes, len: 0 }
 }
 
 // `refuse`, number and place.
-fn refused(number: u8, place: u64) -> Line
+fn refused(number: u8, place: u64) -> OutputLine
     ensures { λ r. ⌜ (bytesIn r ≡ ascii "refuse" ++ spaced (number ∷ place ∷ [])) × (r .len ≤ 48) ⌝ }
 {
     let word = put(empty(), b"refuse");
@@ -69,7 +69,7 @@ fn refused(number: u8, place: u64) -> Line
     put_number(numbered, place)
 }
 
-fn text_of(report: Report) -> Line
+fn text_of(report: Report) -> OutputLine
     ensures { λ r. ⌜ (bytesIn r ≡ textOf report) × (r .len ≤ 132) ⌝ }
 {
     match report {
@@ -80,8 +80,8 @@ fn text_of(report: Report) -> Line
 }
 
 // The line of a report.
-pub(crate) fn line_for(report: Report) -> Line
-    ensures { λ r. ⌜ (bytesIn r ≡ lineFor report) × (r .len ≤ 256) ⌝ }
+pub(crate) fn line_for(report: Report) -> OutputLine
+    ensures { λ r. ⌜ (bytesIn r ≡ reportLine report) × (r .len ≤ 256) ⌝ }
 {
     put(text_of(report), b"\n")
 }

@@ -8,13 +8,13 @@ ghost use mathlib.Core.List.{[], foldl};
 ghost use Prim.Native.Nat.{_*_, _/_, _≤_};
 ghost use lib.ListN.{length, take};
 ghost use Rattle.parts.specs.States.{walkIn, Handed};
-ghost use Rattle.input.specs.Line.{wordsOf};
+ghost use Rattle.input.specs.Line.{wordsFrom};
 ghost use Rattle.input.specs.Input.{body, feed, inputIn};
 
 // The words of some bytes, to the start of the room.
 fn convert(bytes: &[u8], room: &mut [u32])
     requires { ⌜ length (now bytes) ≤ 4 * length (now room) ⌝ }
-    ensures { λ _. ⌜ take (length (now (bytes .entry)) / 4) (now (room .exit)) ≡ wordsOf (now (bytes .entry)) ⌝ }
+    ensures { λ _. ⌜ take (length (now (bytes .entry)) / 4) (now (room .exit)) ≡ wordsFrom (now (bytes .entry)) ⌝ }
 {
     let n = bytes.len() / 4;
     let mut i = 0;
@@ -27,7 +27,7 @@ fn convert(bytes: &[u8], room: &mut [u32])
 // The words of some bytes, handed over.
 fn hand_chunk(state: State, bytes: &[u8], room: &mut [u32]) -> State
     requires { ⌜ length (now bytes) ≤ 4 * length (now room) ⌝ }
-    ensures { λ r. ⌜ Handed state (wordsOf (now (bytes .entry))) r ⌝ }
+    ensures { λ r. ⌜ Handed state (wordsFrom (now (bytes .entry))) r ⌝ }
 {
     convert(bytes, room);
     let n = bytes.len() / 4;

@@ -4,7 +4,7 @@ use mathlib.Core.Path.{_≡_, refl}
 use Prim.Native.Nat.{ℕ}
 use Rattle.answers.specs.Answers as answer
 use Rattle.answers.specs.declared.Answer.{Answer}
-use Rattle.batch.specs.Reports.{numberOf, placeOf, reportedOf}
+use Rattle.batch.specs.Reports.{reportNumber, reportPlace, reportedOf}
 use Rattle.batch.specs.declared.Report.{Report}
 use Rattle.batch.specs.declared.Report.the-variants.{Accepted, Short, Refused}
 use Rattle.interface.specs.Summaries.{summaryOf, outcomeOf}
@@ -19,7 +19,7 @@ abbrev pub outcomeFields : Outcome → List ℕ
 outcomeFields o = o .number ∷ o .place ∷ []
 
 -- They are document 01's number and place, and its four lengths in the order of the buffers.
-pub summary-fields : (r : Report) → summaryFields (summaryOf r) ≡ numberOf r ∷ placeOf r ∷ reportedOf r
+pub summary-fields : (r : Report) → summaryFields (summaryOf r) ≡ reportNumber r ∷ reportPlace r ∷ reportedOf r
 summary-fields (Accepted e) = refl
 summary-fields (Short n place e) = refl
 summary-fields (Refused n place) = refl

@@ -5,7 +5,7 @@ use Prim.Native.Nat.{ℕ, _≤_, _<_}
 use native.Mathlib.Omega.{arith}
 use lib.Dec.{eqb, ltb}
 use borrow.Author.Tests.{ltb-true, ltb-false, lt-ltb, le-ltb, eqb-true, eqb-false}
-use Rattle.interface.specs.Version.{Version, libraryVersion, versionNumber, Fits, ReadBack, earlier}
+use Rattle.interface.specs.Version.{Version, libraryVersion, versionNumber, Fits, ReadBack, olderThan}
 
 -- The number stands for the version.
 pub version-back : (v : Version) → Fits v → ReadBack v (versionNumber v)
@@ -23,8 +23,8 @@ alike m n a b less more = by (ltb a b) refl
     by true e = lt-ltb m n (less (ltb-true a b e))
     by false e = le-ltb m n (more (ltb-false a b e))
 
--- The less number is the earlier version's.
-pub version-order : (v w : Version) → Fits v → Fits w → ltb (versionNumber v) (versionNumber w) ≡ earlier v w
+-- The less number is the olderThan version's.
+pub version-order : (v w : Version) → Fits v → Fits w → ltb (versionNumber v) (versionNumber w) ≡ olderThan v w
 version-order v w f g = by-major (eqb (v .major) (w .major)) refl
   where
     by-minor : v .major ≡ w .major

@@ -3,7 +3,7 @@ use Rattle.answers.specs.Answers as answer
 use Rattle.answers.specs.declared.Answer.{Answer}
 use Rattle.progress.specs.Buffers.{source, reconstructed, forward, backward}
 use Rattle.batch.specs.Demand.{reportedFor}
-use Rattle.batch.specs.Reports.{numberOf, placeOf}
+use Rattle.batch.specs.Reports.{reportNumber, reportPlace}
 use Rattle.batch.specs.declared.Report.{Report}
 use Rattle.interface.specs.declared.Outcome.{Outcome}
 use Rattle.interface.specs.declared.Summary.{Summary}
@@ -12,8 +12,8 @@ use Rattle.interface.specs.declared.Summary.{Summary}
 abbrev pub summaryOf : Report → Summary
 summaryOf r =
     record {
-      number = numberOf r;
-      place = placeOf r;
+      number = reportNumber r;
+      place = reportPlace r;
       lengths =
           record {
             source = reportedFor source r;

@@ -4,7 +4,7 @@ use mathlib.Core.Bool.{Bool, cond}
 use mathlib.Core.Path.{_≡_}
 use lib.Dec.{eqb, ltb}
 
--- A major step: an earlier caller has to be changed or compiled again. A minor step: functions were added, and an earlier caller works
+-- A major step: an olderThan caller has to be changed or compiled again. A minor step: functions were added, and an olderThan caller works
 -- as it is. A patch step: neither, but answers may be others.
 pub record Version : Type 0 where
   pub major : ℕ
@@ -32,9 +32,9 @@ pub record ReadBack (v : Version) (n : ℕ) : Type 0 where
   pub minor : n / 256 % 256 ≡ v .minor
   pub patch : n % 256 ≡ v .patch
 
--- An earlier version: the first number that differs is less.
-abbrev pub earlier : Version → Version → Bool
-earlier v w =
+-- An olderThan version: the first number that differs is less.
+abbrev pub olderThan : Version → Version → Bool
+olderThan v w =
     cond (eqb (v .major) (w .major))
     (cond (eqb (v .minor) (w .minor)) (ltb (v .patch) (w .patch)) (ltb (v .minor) (w .minor)))
     (ltb (v .major) (w .major))

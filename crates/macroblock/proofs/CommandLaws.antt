@@ -16,7 +16,7 @@ use Rattle.fields.proofs.Elements.{elements-all}
 use Rattle.fields.proofs.Packing.{valueIn, clear, piece, packed-field, packed-lt, packed-is, bits-cut}
 use Rattle.answers.specs.Answers.{Rule}
 use Rattle.macroblock.specs.Cases.{motion, motionOf, caseOf, vectorWords}
-use Rattle.macroblock.specs.Legal.{Words, Command, Legal}
+use Rattle.macroblock.specs.Legal.{Words, LegalCommand, Legal}
 use Rattle.headers.specs.Words.{wordAt}
 use Rattle.macroblock.specs.Macroblocks.{intraType, kindIn, typeOf, motionIn, flagsIn, macroblockOf, fields1, fields2, fields3, fields4, wordsOf}
 use Rattle.macroblock.specs.Rules.{keptBy, typePermitted, fixed1, fixed3, fixed4, fieldRules, vectorRules, copied, commandRules}
@@ -128,7 +128,7 @@ module _ (m : Macroblock) where
       (same 0, (same 1, (same 2, (same 3, tt))))
 
   -- A legal macroblock's words are a command.
-  pub words-kept : Legal m → Command (wordsOf m)
+  pub words-kept : Legal m → LegalCommand (wordsOf m)
   unfolding wordsOf commandRules
   words-kept l =
       let table : Macroblock → List Rule = λ n. fieldsOf (packed (first m)) (packed (fields3 m)) (packed (fields4 m)) (keptBy n) in
@@ -165,7 +165,7 @@ bit-again w i t =
     let one = subst (λ (n : ℕ). bits w i i < 2 ^ n) (eqb→eq (width i i) 1 t) (bits-lt w i i) in
     ap (λ (x : ℕ). x % 2) (flag-again (bits w i i) (omega arith)) ∙ mod-eq-of-lt one
 
-module _ (ws : List ℕ) (c : Command ws) where
+module _ (ws : List ℕ) (c : LegalCommand ws) where
   abbrev m : Macroblock
   m = macroblockOf ws
 

@@ -23,7 +23,7 @@ Words [] = Unit {0}
 Words (w ∷ ws) = (w < 2 ^ 32) × Words ws
 
 -- A whole MACROBLOCK command, of nine words, that keeps the rules of a command alone.
-pub record Command (ws : List ℕ) : Type 0 where
+pub record LegalCommand (ws : List ℕ) : Type 0 where
   pub nine : length ws ≡ 9
   pub words : Words ws
   pub header : wordAt ws 0 ≡ macroblockHeader

@@ -9,7 +9,7 @@ use lib.Seq.{ext-getD, getD-append-add}
 use Rattle.fields.proofs.Fields.{flag-nonzero}
 use Rattle.fields.specs.Bytes.{elements}
 use Rattle.parts.specs.declared.State.{State}
-use Rattle.memory.specs.Memory.{bufferIn, stateIn, progressWords, ownWords, lengthsWords, stateWords}
+use Rattle.memory.specs.Memory.{storedBuffer, stateIn, progressWords, ownWords, lengthsWords, stateWords}
 
 length-elements : (xs : List ℕ) (i k : ℕ) → length (elements xs i k) ≡ k
 length-elements xs i zero = refl
@@ -21,12 +21,12 @@ elements-at xs i (suc k) zero h = ap (λ (n : ℕ). getD xs n 0) (sym (add-zero 
 elements-at xs i (suc k) (suc j) h =
     elements-at xs (suc i) k j (omega arith) ∙ ap (λ (n : ℕ). getD xs n 0) (let e : suc i + j ≡ i + suc j = omega arith in e)
 
-pub buffer-length : (m : List ℕ) → length (bufferIn m) ≡ 61
-unfolding bufferIn
+pub buffer-length : (m : List ℕ) → length (storedBuffer m) ≡ 61
+unfolding storedBuffer
 buffer-length m = length-map (elements m 38 61) (λ w. w % 2 ^ 32) ∙ length-elements m 38 61
 
-pub buffer-at : (m : List ℕ) (i : ℕ) → i < 61 → getD (bufferIn m) i 0 ≡ getD m (38 + i) 0 % 2 ^ 32
-unfolding bufferIn
+pub buffer-at : (m : List ℕ) (i : ℕ) → i < 61 → getD (storedBuffer m) i 0 ≡ getD m (38 + i) 0 % 2 ^ 32
+unfolding storedBuffer
 buffer-at m i h = List·getD-map (λ w. w % 2 ^ 32) (elements m 38 61) i 0 ∙ ap (λ (n : ℕ). n % 2 ^ 32) (elements-at m 38 61 i h)
 
 -- Numbers of a state that fit their types: the words of it that are cut when they are read.
@@ -54,10 +54,10 @@ pub record Fitting (s : State) : Type 0 where
   pub held-words : length (s .buffer) ≡ 61
   pub buffer : (i : ℕ) → getD (s .buffer) i 0 < 2 ^ 32
 
-buffer-back : (s : State) → Fitting s → bufferIn (stateWords s) ≡ s .buffer
+buffer-back : (s : State) → Fitting s → storedBuffer (stateWords s) ≡ s .buffer
 unfolding stateWords
 buffer-back s f =
-    ext-getD 0 (bufferIn (stateWords s)) (s .buffer) (buffer-length (stateWords s) ∙ sym (f .held-words))
+    ext-getD 0 (storedBuffer (stateWords s)) (s .buffer) (buffer-length (stateWords s) ∙ sym (f .held-words))
     (λ i h. let l = buffer-length (stateWords s) in let k : i < 61 = omega arith in
     buffer-at (stateWords s) i k
     ∙ ap (λ (w : ℕ). w % 2 ^ 32) (getD-append-add (progressWords (s .progress) ++ ownWords s ++ lengthsWords (s .lengths)) (s .buffer) i 0)

@@ -19,95 +19,95 @@ use Rattle.batch.specs.declared.Lengths.{Lengths}
 use Rattle.parts.specs.declared.State.{State}
 
 -- A word, a number of so many bits in one, and a flag.
-abbrev pub wordAt : List ℕ → ℕ → ℕ
-wordAt m i = getD m i 0
+abbrev pub storedWord : List ℕ → ℕ → ℕ
+storedWord m i = getD m i 0
 
-abbrev pub numberAt : ℕ → List ℕ → ℕ → ℕ
-numberAt bits m i = wordAt m i % 2 ^ bits
+abbrev pub storedNumber : ℕ → List ℕ → ℕ → ℕ
+storedNumber bits m i = storedWord m i % 2 ^ bits
 
-abbrev pub flagAt : List ℕ → ℕ → Bool
-flagAt m i = not (eqb (wordAt m i) 0)
+abbrev pub storedFlag : List ℕ → ℕ → Bool
+storedFlag m i = not (eqb (storedWord m i) 0)
 
 -- The state that memory stands for.
-abbrev pub stageIn : List ℕ → Stage
-stageIn m =
+abbrev pub storedStage : List ℕ → Stage
+storedStage m =
     record {
-      surfaced = flagAt m 0;
-      pictured = flagAt m 1;
-      grouped = flagAt m 2;
-      «in_group» = flagAt m 3;
-      «group_start» = flagAt m 4;
-      «in_slice» = flagAt m 5;
-      ended = flagAt m 6;
+      surfaced = storedFlag m 0;
+      pictured = storedFlag m 1;
+      grouped = storedFlag m 2;
+      «in_group» = storedFlag m 3;
+      «group_start» = storedFlag m 4;
+      «in_slice» = storedFlag m 5;
+      ended = storedFlag m 6;
     }
 
-abbrev pub frameIn : List ℕ → Frame
-frameIn m =
+abbrev pub storedFrame : List ℕ → Frame
+storedFrame m =
     record {
-      width = numberAt 16 m 7;
-      height = numberAt 16 m 8;
-      surface = record { pitch = numberAt 32 m 9; «chroma_row» = numberAt 16 m 10 };
+      width = storedNumber 16 m 7;
+      height = storedNumber 16 m 8;
+      surface = record { pitch = storedNumber 32 m 9; «chroma_row» = storedNumber 16 m 10 };
     }
 
-abbrev pub pictureIn : List ℕ → Picture
-pictureIn m =
+abbrev pub storedPicture : List ℕ → Picture
+storedPicture m =
     record {
-      coding = numberAt 8 m 11;
-      forward = record { x = numberAt 8 m 12; y = numberAt 8 m 13 };
-      backward = record { x = numberAt 8 m 14; y = numberAt 8 m 15 };
-      grid = record { columns = numberAt 16 m 16; rows = numberAt 16 m 17 };
+      coding = storedNumber 8 m 11;
+      forward = record { x = storedNumber 8 m 12; y = storedNumber 8 m 13 };
+      backward = record { x = storedNumber 8 m 14; y = storedNumber 8 m 15 };
+      grid = record { columns = storedNumber 16 m 16; rows = storedNumber 16 m 17 };
     }
 
-abbrev pub positionIn : List ℕ → Position
-positionIn m = record { column = numberAt 16 m 18; row = numberAt 16 m 19 }
+abbrev pub storedPosition : List ℕ → Position
+storedPosition m = record { column = storedNumber 16 m 18; row = storedNumber 16 m 19 }
 
-abbrev pub previousIn : List ℕ → Previous
-previousIn m =
+abbrev pub storedPrevious : List ℕ → Previous
+storedPrevious m =
     record {
-      kind = numberAt 8 m 20;
-      five = numberAt 32 m 21;
-      six = numberAt 32 m 22;
-      seven = numberAt 32 m 23;
-      eight = numberAt 32 m 24;
+      kind = storedNumber 8 m 20;
+      five = storedNumber 32 m 21;
+      six = storedNumber 32 m 22;
+      seven = storedNumber 32 m 23;
+      eight = storedNumber 32 m 24;
     }
 
-abbrev pub extentsIn : List ℕ → Extents
-extentsIn m =
+abbrev pub storedExtents : List ℕ → Extents
+storedExtents m =
     record {
-      source = record { end = wordAt m 25 };
-      reconstructed = record { end = wordAt m 26 };
-      forward = record { end = wordAt m 27 };
-      backward = record { end = wordAt m 28 };
+      source = record { end = storedWord m 25 };
+      reconstructed = record { end = storedWord m 26 };
+      forward = record { end = storedWord m 27 };
+      backward = record { end = storedWord m 28 };
     }
 
-abbrev pub progressIn : List ℕ → Progress
-progressIn m =
+abbrev pub storedProgress : List ℕ → Progress
+storedProgress m =
     record {
-      stage = stageIn m;
-      frame = frameIn m;
-      picture = pictureIn m;
-      position = positionIn m;
-      previous = previousIn m;
-      extents = extentsIn m;
+      stage = storedStage m;
+      frame = storedFrame m;
+      picture = storedPicture m;
+      position = storedPosition m;
+      previous = storedPrevious m;
+      extents = storedExtents m;
     }
 
-abbrev pub lengthsIn : List ℕ → Lengths
-lengthsIn m = record { source = wordAt m 34; reconstructed = wordAt m 35; forward = wordAt m 36; backward = wordAt m 37 }
+abbrev pub storedLengths : List ℕ → Lengths
+storedLengths m = record { source = storedWord m 34; reconstructed = storedWord m 35; forward = storedWord m 36; backward = storedWord m 37 }
 
-unfoldable pub bufferIn : List ℕ → List ℕ
-bufferIn m = map (λ w. w % 2 ^ 32) (elements m 38 61)
+unfoldable pub storedBuffer : List ℕ → List ℕ
+storedBuffer m = map (λ w. w % 2 ^ 32) (elements m 38 61)
 
 unfoldable pub stateIn : List ℕ → State
 stateIn m =
     record {
-      progress = progressIn m;
-      at = numberAt 32 m 29;
-      held = wordAt m 30;
-      stopped = flagAt m 31;
-      number = numberAt 8 m 32;
-      place = wordAt m 33;
-      lengths = lengthsIn m;
-      buffer = bufferIn m;
+      progress = storedProgress m;
+      at = storedNumber 32 m 29;
+      held = storedWord m 30;
+      stopped = storedFlag m 31;
+      number = storedNumber 8 m 32;
+      place = storedWord m 33;
+      lengths = storedLengths m;
+      buffer = storedBuffer m;
     }
 
 -- The words of a state.

@@ -13,10 +13,10 @@ use progress::Previous;
 use progress::Progress;
 use progress::Stage;
 ghost use mathlib.Core.Path.{_≡_};
-ghost use Rattle.memory.specs.Memory.{stageIn, frameIn, pictureIn, positionIn, previousIn, extentsIn, progressIn, lengthsIn, bufferIn, stateIn};
+ghost use Rattle.memory.specs.Memory.{storedStage, storedFrame, storedPicture, storedPosition, storedPrevious, storedExtents, storedProgress, storedLengths, storedBuffer, stateIn};
 
 fn stage_in(memory: &[u64; 99]) -> Stage
-    ensures { λ r. ⌜ r ≡ stageIn (now (memory .entry)) ⌝ }
+    ensures { λ r. ⌜ r ≡ storedStage (now (memory .entry)) ⌝ }
 {
     Stage {
         surfaced: memory[0] != 0,
@@ -30,7 +30,7 @@ fn stage_in(memory: &[u64; 99]) -> Stage
 }
 
 fn frame_in(memory: &[u64; 99]) -> Frame
-    ensures { λ r. ⌜ r ≡ frameIn (now (memory .entry)) ⌝ }
+    ensures { λ r. ⌜ r ≡ storedFrame (now (memory .entry)) ⌝ }
 {
     Frame {
         width: (memory[7] % 65536) as u16,
@@ -43,7 +43,7 @@ fn frame_in(memory: &[u64; 99]) -> Frame
 }
 
 fn picture_in(memory: &[u64; 99]) -> Picture
-    ensures { λ r. ⌜ r ≡ pictureIn (now (memory .entry)) ⌝ }
+    ensures { λ r. ⌜ r ≡ storedPicture (now (memory .entry)) ⌝ }
 {
     Picture {
         coding: (memory[11] % 256) as u8,
@@ -63,7 +63,7 @@ fn picture_in(memory: &[u64; 99]) -> Picture
 }
 
 fn position_in(memory: &[u64; 99]) -> Position
-    ensures { λ r. ⌜ r ≡ positionIn (now (memory .entry)) ⌝ }
+    ensures { λ r. ⌜ r ≡ storedPosition (now (memory .entry)) ⌝ }
 {
     Position {
         column: (memory[18] % 65536) as u16,
@@ -72,7 +72,7 @@ fn position_in(memory: &[u64; 99]) -> Position
 }
 
 fn previous_in(memory: &[u64; 99]) -> Previous
-    ensures { λ r. ⌜ r ≡ previousIn (now (memory .entry)) ⌝ }
+    ensures { λ r. ⌜ r ≡ storedPrevious (now (memory .entry)) ⌝ }
 {
     Previous {
         kind: (memory[20] % 256) as u8,
@@ -84,7 +84,7 @@ fn previous_in(memory: &[u64; 99]) -> Previous
 }
 
 fn extents_in(memory: &[u64; 99]) -> Extents
-    ensures { λ r. ⌜ r ≡ extentsIn (now (memory .entry)) ⌝ }
+    ensures { λ r. ⌜ r ≡ storedExtents (now (memory .entry)) ⌝ }
 {
     Extents {
         source: Extent { end: memory[25] },
@@ -95,7 +95,7 @@ fn extents_in(memory: &[u64; 99]) -> Extents
 }
 
 fn progress_in(memory: &[u64; 99]) -> Progress
-    ensures { λ r. ⌜ r ≡ progressIn (now (memory .entry)) ⌝ }
+    ensures { λ r. ⌜ r ≡ storedProgress (now (memory .entry)) ⌝ }
 {
     Progress {
         stage: stage_in(memory),
@@ -108,7 +108,7 @@ fn progress_in(memory: &[u64; 99]) -> Progress
 }
 
 fn lengths_in(memory: &[u64; 99]) -> Lengths
-    ensures { λ r. ⌜ r ≡ lengthsIn (now (memory .entry)) ⌝ }
+    ensures { λ r. ⌜ r ≡ storedLengths (now (memory .entry)) ⌝ }
 {
     Lengths {
         source: memory[34],
@@ -119,7 +119,7 @@ fn lengths_in(memory: &[u64; 99]) -> Lengths
 }
 
 fn buffer_in(memory: &[u64; 99]) -> [u32; 61]
-    ensures { λ r. ⌜ r ≡ bufferIn (now (memory .entry)) ⌝ }
+    ensures { λ r. ⌜ r ≡ storedBuffer (now (memory .entry)) ⌝ }
 {
     let mut buffer = [0u32; 61];
     let mut i = 0;

@@ -3,7 +3,7 @@ use mathlib.Core.List.{List, [], _++_, foldl, foldl-append, flatten}
 use mathlib.Core.Path.{_≡_, refl, sym, _∙_, ap}
 use Prim.Native.Nat.{ℕ}
 use Rattle.lists.proofs.Stepping.{along-whole}
-use Rattle.batch.specs.Reports.{numberOf, placeOf, reportedOf, finish, verdictOf, report}
+use Rattle.batch.specs.Reports.{reportNumber, reportPlace, reportedOf, finish, verdictOf, report}
 use Rattle.batch.specs.Walk.{Walk, step}
 use Rattle.batch.specs.declared.Lengths.{Lengths}
 use Rattle.batch.specs.declared.Report.{Report}
@@ -34,5 +34,5 @@ parts-whole l parts s r h answered =
 -- The same of document 01's number, place and lengths.
 pub parts-reported : (l : Lengths) (parts : List (List ℕ)) (s : State) (r : Report) → HandedOver l parts s → Answered s r
     → let whole = report l (flatten parts) in
-    (numberOf r ≡ numberOf whole) × ((placeOf r ≡ placeOf whole) × (reportedOf r ≡ reportedOf whole))
-parts-reported l parts s r h a = let e = parts-whole l parts s r h a in (ap numberOf e, (ap placeOf e, ap reportedOf e))
+    (reportNumber r ≡ reportNumber whole) × ((reportPlace r ≡ reportPlace whole) × (reportedOf r ≡ reportedOf whole))
+parts-reported l parts s r h a = let e = parts-whole l parts s r h a in (ap reportNumber e, (ap reportPlace e, ap reportedOf e))

@@ -11,7 +11,7 @@ use lib.ListN.{length, getD}
 use Rattle.fields.proofs.Fields.{flag-back}
 use Rattle.lists.proofs.Booleans.{and-left, and-right, both-true}
 use Rattle.fields.specs.Word.{isSet, flag, packed}
-use Rattle.fields.specs.Bytes.{bytesOf, numberOf, elements}
+use Rattle.fields.specs.Bytes.{bytesOf, numberIn, elements}
 use Rattle.fields.proofs.Elements.{elements-all}
 use Rattle.fields.proofs.LittleEndian.{Bytes, bytes-back, number-back}
 use Rattle.fields.proofs.Packing.{piece, packed-field, packed-is}
@@ -34,8 +34,8 @@ use Rattle.macroblock.proofs.CaseLaws.{kind-most, case-fits, case-back, motion-
 use Rattle.macroblock.proofs.CommandLaws.{flag-again, bit-again, quantiser-lt}
 use Rattle.macroblock.proofs.Congruence.{same-flags, same-macroblock}
 use Rattle.records.specs.Layout.{Part, columnPart, rowPart, upperPart, kindPart, skipPart, patternPart, maxSizePart, targetSizePart, quantiserPart, flagsPart, fillerPart, forwardPart, backwardPart}
-use Rattle.records.specs.Records.{flagFields, flagsOf, valueAt, motionIn, recordOf, macroblockIn}
-use Rattle.records.specs.RecordRules.{hasForward, hasBackward, zeroBytes, unused, byteRules, zeroRules, recordRules}
+use Rattle.records.specs.Records.{flagFields, flagsOf, valueAt, recordedMotion, recordOf, macroblockIn}
+use Rattle.records.specs.RecordRules.{hasForward, hasBackward, zeroBytes, unusedPart, byteRules, zeroRules, recordRules}
 use Rattle.records.proofs.FlagsByte.{flags-lt, flags-fit}
 use Rattle.records.proofs.Spelling.{bytesBy, flag-most, flag-fits, spelled}
 
@@ -62,7 +62,7 @@ module _ (m : Macroblock) (l : Legal m) where
   unfolding recordOf
   kind-at = let k = kind-most (m .case) in number-back 1 (motionOf (m .case) .kind) (omega arith)
 
-  motion-at : motionIn (recordOf m) ≡ motionOf (m .case)
+  motion-at : recordedMotion (recordOf m) ≡ motionOf (m .case)
   unfolding recordOf
   motion-at =
       let k = kind-at in
@@ -105,11 +105,11 @@ hold-zeros : (bs : List ℕ) (i k : ℕ) → Hold (zeroBytes bs i k) → element
 hold-zeros bs i zero h = refl
 hold-zeros bs i (suc k) h = ap₂ (λ (x : ℕ) (xs : List ℕ). x ∷ xs) (eqb-true (getD bs i 0) 0 (h .0)) (hold-zeros bs (suc i) k (h .1))
 
-unused-hold : (used : Bool) (p : Part) (bs : List ℕ) → (used ≡ false → elements bs (p .first) (p .count) ≡ bytesOf (p .count) 0) → Hold (unused used p bs)
+unused-hold : (used : Bool) (p : Part) (bs : List ℕ) → (used ≡ false → elements bs (p .first) (p .count) ≡ bytesOf (p .count) 0) → Hold (unusedPart used p bs)
 unused-hold true p bs h = tt
 unused-hold false p bs h = zeros-hold bs (p .first) (p .count) (h refl)
 
-hold-unused : (used : Bool) (p : Part) (bs : List ℕ) → Hold (unused used p bs) → used ≡ false → elements bs (p .first) (p .count) ≡ bytesOf (p .count) 0
+hold-unused : (used : Bool) (p : Part) (bs : List ℕ) → Hold (unusedPart used p bs) → used ≡ false → elements bs (p .first) (p .count) ≡ bytesOf (p .count) 0
 hold-unused true p bs h e = absurd (subst T e tt)
 hold-unused false p bs h e = hold-zeros bs (p .first) (p .count) h
 
@@ -134,9 +134,9 @@ module _ (m : Macroblock) (l : Legal m) where
       let bs = recordOf m in
       let k = valueAt kindPart bs in
       let absent : (b : ℕ → Bool) → b k ≡ false → b (motionOf (m .case) .kind) ≡ false = λ b e. ap b (sym (kind-at m l)) ∙ e in
-      hold-both (unused false fillerPart bs) (unused (hasForward k) forwardPart bs ++ unused (hasBackward k) backwardPart bs)
+      hold-both (unusedPart false fillerPart bs) (unusedPart (hasForward k) forwardPart bs ++ unusedPart (hasBackward k) backwardPart bs)
       (unused-hold false fillerPart bs (λ e. refl))
-      (hold-both (unused (hasForward k) forwardPart bs) (unused (hasBackward k) backwardPart bs)
+      (hold-both (unusedPart (hasForward k) forwardPart bs) (unusedPart (hasBackward k) backwardPart bs)
       (unused-hold (hasForward k) forwardPart bs (λ e. ap (bytesOf 4) (absent-zero (m .case) .0 (absent hasForward e))))
       (unused-hold (hasBackward k) backwardPart bs (λ e. ap (bytesOf 4) (absent-zero (m .case) .1 (absent hasBackward e)))))
 
@@ -179,17 +179,17 @@ part-bytes bs h i zero = tt
 part-bytes bs h i (suc k) = (byte-lt bs h i, part-bytes bs h (suc i) k)
 
 -- the number of bytes is below what they can hold, and one byte's number is that byte
-number-lt : (bs : List ℕ) → Bytes bs → numberOf bs < 256 ^ length bs
+number-lt : (bs : List ℕ) → Bytes bs → numberIn bs < 256 ^ length bs
 number-lt [] h = omega arith
 number-lt (b ∷ bs) h =
     let up = number-lt bs (h .1) in
     let low = h .0 in
-    subst (λ (x : ℕ). b + 256 * numberOf bs < x) (sym (pow-suc 256 (length bs))) (joined b (numberOf bs) (256 ^ length bs) low up)
+    subst (λ (x : ℕ). b + 256 * numberIn bs < x) (sym (pow-suc 256 (length bs))) (joined b (numberIn bs) (256 ^ length bs) low up)
   where
     joined : (b n p : ℕ) → b < 256 → n < p → b + 256 * n < p * 256
     joined b n p hb hn = omega arith
 
-one : (b : ℕ) → numberOf (b ∷ []) ≡ b
+one : (b : ℕ) → numberIn (b ∷ []) ≡ b
 one b = omega arith
 
 -- numbers that a record may hold are those of a case
@@ -285,7 +285,7 @@ module _ (bs : List ℕ) (n : length bs ≡ 24) (h : Bytes bs) (k : judged (reco
         column-fits = part-lt columnPart;
         row-fits = part-lt rowPart;
         upper-fits = part-lt upperPart;
-        case-fits = case-fits (motionIn bs);
+        case-fits = case-fits (recordedMotion bs);
         pattern-fits = omega arith;
         max-fits = part-lt maxSizePart;
         target-fits = part-lt targetSizePart;
@@ -300,15 +300,15 @@ module _ (bs : List ℕ) (n : length bs ≡ 24) (h : Bytes bs) (k : judged (reco
   unfolding zeroRules
   zeros =
       let kind = valueAt kindPart bs in
-      let a = hold-each (unused false fillerPart bs) (unused (hasForward kind) forwardPart bs ++ unused (hasBackward kind) backwardPart bs) (rules .1) in
-      let b = hold-each (unused (hasForward kind) forwardPart bs) (unused (hasBackward kind) backwardPart bs) (a .1) in
+      let a = hold-each (unusedPart false fillerPart bs) (unusedPart (hasForward kind) forwardPart bs ++ unusedPart (hasBackward kind) backwardPart bs) (rules .1) in
+      let b = hold-each (unusedPart (hasForward kind) forwardPart bs) (unusedPart (hasBackward kind) backwardPart bs) (a .1) in
       (hold-unused false fillerPart bs (a .0) refl, hold-unused (hasForward kind) forwardPart bs (b .0), hold-unused (hasBackward kind) backwardPart bs (b .1))
 
-  motion-right : motionOf (caseOf (motionIn bs)) ≡ motionIn bs
+  motion-right : motionOf (caseOf (recordedMotion bs)) ≡ recordedMotion bs
   motion-right =
-      motion-again (motionIn bs) kind-right (part-lt forwardPart) (part-lt backwardPart)
-      (λ e. ap numberOf (zeros .1 e))
-      (λ e. ap numberOf (zeros .2 e))
+      motion-again (recordedMotion bs) kind-right (part-lt forwardPart) (part-lt backwardPart)
+      (λ e. ap numberIn (zeros .1 e))
+      (λ e. ap numberIn (zeros .2 e))
 
   spelling : bytesBy (elements bs 0 2) (elements bs 2 2) (elements bs 4 2) (valueAt kindPart bs) (valueAt skipPart bs) (valueAt patternPart bs) (valueAt maxSizePart bs) (valueAt targetSizePart bs) (valueAt quantiserPart bs) (valueAt flagsPart bs) (elements bs 16 4) (elements bs 20 4) ≡ recordOf (macroblockIn bs)
   unfolding macroblockIn

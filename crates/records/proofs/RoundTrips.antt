@@ -19,7 +19,7 @@ use Rattle.answers.specs.declared.Answer.the-variants.{Accepted, Refused}
 use Rattle.answers.proofs.Judging.{no-accepted}
 use Rattle.macroblock.specs.Cases.{motionOf}
 use Rattle.headers.specs.Headers.{macroblockHeader}
-use Rattle.macroblock.specs.Legal.{Words, Command, Legal}
+use Rattle.macroblock.specs.Legal.{Words, LegalCommand, Legal}
 use Rattle.headers.specs.Words.{wordAt}
 use Rattle.macroblock.specs.Macroblocks.{macroblockOf, wordsOf}
 use Rattle.macroblock.specs.Rules.{commandRules}
@@ -49,7 +49,7 @@ read-kept ws e = by (eqb (length ws) 0) (eqb (wordAt ws 0) macroblockHeader) (lt
     by false true false ex ey ez e = (eqb-true (wordAt ws 0) macroblockHeader ey, ltb-false (length ws) 9 ez, e)
 
 -- Its first nine words are a command, and no other word is looked at.
-first-nine : (ws : List ℕ) → Words ws → readFault ws ≡ Accepted → Command (elements ws 0 9)
+first-nine : (ws : List ℕ) → Words ws → readFault ws ≡ Accepted → LegalCommand (elements ws 0 9)
 unfolding commandRules macroblockOf
 first-nine ws h e =
     let k = read-kept ws e in
@@ -113,7 +113,7 @@ module _ (bs : List ℕ) (h : Bytes bs) (e : recordFault bs ≡ Accepted) where
   legal-written : Legal (macroblockIn bs)
   legal-written = record-legal bs (kept-length .0) h (kept-length .1)
 
-  written : Command (wordsOf (macroblockIn bs))
+  written : LegalCommand (wordsOf (macroblockIn bs))
   written = words-kept (macroblockIn bs) legal-written
 
   read-of-record : readFault (wordsOf (macroblockIn bs)) ≡ Accepted

@@ -30,8 +30,8 @@ zeroBytes bytes i (suc k) = rule 15 i (eqb (getD bytes i 0) 0) ∷ zeroBytes byt
 abbrev pub unusedBytes : Bool → List ℕ → ℕ → ℕ → List Rule
 unusedBytes used bytes i k = cond used [] (zeroBytes bytes i k)
 
-abbrev pub unused : Bool → Part → List ℕ → List Rule
-unused used p bytes = unusedBytes used bytes (p .first) (p .count)
+abbrev pub unusedPart : Bool → Part → List ℕ → List Rule
+unusedPart used p bytes = unusedBytes used bytes (p .first) (p .count)
 
 -- Each number within its bits, and the rules of the macroblock itself: "Clashes are placed at byte 7 (skipped intra), 8
 -- (pattern), 12 (skip with a slice end)."
@@ -46,7 +46,7 @@ byteRules bytes kept =
 
 -- "13 to 15 zero"; the vectors "zero when absent"
 unfoldable pub zeroRules : List ℕ → ℕ → List Rule
-zeroRules bytes kind = unused false fillerPart bytes ++ (unused (hasForward kind) forwardPart bytes ++ unused (hasBackward kind) backwardPart bytes)
+zeroRules bytes kind = unusedPart false fillerPart bytes ++ (unusedPart (hasForward kind) forwardPart bytes ++ unusedPart (hasBackward kind) backwardPart bytes)
 
 unfoldable pub recordRules : List ℕ → List Rule
 recordRules bytes = byteRules bytes (keptBy (macroblockIn bytes)) ++ zeroRules bytes (valueAt kindPart bytes)

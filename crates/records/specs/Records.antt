@@ -4,7 +4,7 @@ use mathlib.Core.List.{List, [], _∷_}
 use lib.ListN.{replicate}
 use lib.Seq.{sets}
 use Rattle.fields.specs.Word.{Field, bits, isSet, flag, field, packed}
-use Rattle.fields.specs.Bytes.{bytesOf, numberOf, elements}
+use Rattle.fields.specs.Bytes.{bytesOf, numberIn, elements}
 use Rattle.macroblock.specs.Cases.{motion, motionOf, caseOf}
 use Rattle.macroblock.specs.declared.Flags.{Flags}
 use Rattle.macroblock.specs.declared.Macroblock.{Macroblock}
@@ -26,7 +26,7 @@ laid (e ∷ es) = sets (laid es) (e .place .first) (bytesOf (e .place .count) (e
 
 -- The number that a part of a record holds.
 abbrev pub valueAt : Part → List ℕ → ℕ
-valueAt p bytes = numberOf (elements bytes (p .first) (p .count))
+valueAt p bytes = numberIn (elements bytes (p .first) (p .count))
 
 -- "12 flags, bits 0 to 5: first slice, last slice, first group, last group, clamp, no conversion"
 abbrev pub flagFields : Flags → List Field
@@ -71,8 +71,8 @@ unfoldable pub recordOf : Macroblock → List ℕ
 recordOf m = laid (entries m)
 
 -- The kind and the vectors of a record.
-abbrev pub motionIn : List ℕ → Motion
-motionIn bytes = motion (valueAt kindPart bytes) (valueAt forwardPart bytes) (valueAt backwardPart bytes)
+abbrev pub recordedMotion : List ℕ → Motion
+recordedMotion bytes = motion (valueAt kindPart bytes) (valueAt forwardPart bytes) (valueAt backwardPart bytes)
 
 -- The macroblock of a record.
 unfoldable pub macroblockIn : List ℕ → Macroblock
@@ -81,7 +81,7 @@ macroblockIn bytes =
       column = valueAt columnPart bytes;
       row = valueAt rowPart bytes;
       upper = valueAt upperPart bytes;
-      case = caseOf (motionIn bytes);
+      case = caseOf (recordedMotion bytes);
       skip = isSet (valueAt skipPart bytes);
       pattern = valueAt patternPart bytes;
       «max_size» = valueAt maxSizePart bytes;

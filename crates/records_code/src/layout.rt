@@ -5,7 +5,7 @@ use macroblock::Macroblock;
 use macroblock::Motion;
 ghost use mathlib.Core.Path.{_≡_};
 ghost use Rattle.fields.specs.Word.{packed};
-ghost use Rattle.records.specs.Records.{flagFields, flagsOf, motionIn, recordOf, macroblockIn};
+ghost use Rattle.records.specs.Records.{flagFields, flagsOf, recordedMotion, recordOf, macroblockIn};
 
 // The flags as the byte that holds them, and back.
 fn flags_byte(flags: Flags) -> u8
@@ -77,7 +77,7 @@ pub(crate) fn record_of(macroblock: Macroblock) -> [u8; 24]
 
 // The kind and the vectors of a record.
 fn motion_in(bytes: &[u8]) -> Motion
-    ensures { λ r. ⌜ r ≡ motionIn (now (bytes .entry)) ⌝ }
+    ensures { λ r. ⌜ r ≡ recordedMotion (now (bytes .entry)) ⌝ }
 {
     let kind = numbers::number8_at(bytes, numbers::KIND);
     let forward = numbers::number32_at(bytes, numbers::FORWARD);

@@ -2,7 +2,7 @@
 ghost use mathlib.Core.Path.{_≡_};
 ghost use Prim.Native.Nat.{_≤_};
 ghost use lib.ListN.{getD};
-ghost use Rattle.fields.specs.Bytes.{numberOf, elements};
+ghost use Rattle.fields.specs.Bytes.{numberIn, elements};
 
 // The first byte of each part; specs/Layout.antt has them with their counts.
 pub(crate) const COLUMN: usize = 0;
@@ -40,14 +40,14 @@ pub(crate) fn byte_at(bytes: &[u8], i: usize) -> u8
 
 // The number in one, two or four bytes.
 pub(crate) fn number8_at(bytes: &[u8], i: usize) -> u8
-    ensures { λ r. ⌜ r ≡ numberOf (elements (now (bytes .entry)) i 1) ⌝ }
+    ensures { λ r. ⌜ r ≡ numberIn (elements (now (bytes .entry)) i 1) ⌝ }
 {
     byte_at(bytes, i)
 }
 
 pub(crate) fn number16_at(bytes: &[u8], i: usize) -> u16
     requires { ⌜ i ≤ 24 ⌝ }
-    ensures { λ r. ⌜ r ≡ numberOf (elements (now (bytes .entry)) i 2) ⌝ }
+    ensures { λ r. ⌜ r ≡ numberIn (elements (now (bytes .entry)) i 2) ⌝ }
 {
     let b0 = byte_at(bytes, i);
     let b1 = byte_at(bytes, i + 1);
@@ -56,7 +56,7 @@ pub(crate) fn number16_at(bytes: &[u8], i: usize) -> u16
 
 pub(crate) fn number32_at(bytes: &[u8], i: usize) -> u32
     requires { ⌜ i ≤ 24 ⌝ }
-    ensures { λ r. ⌜ r ≡ numberOf (elements (now (bytes .entry)) i 4) ⌝ }
+    ensures { λ r. ⌜ r ≡ numberIn (elements (now (bytes .entry)) i 4) ⌝ }
 {
     let b0 = byte_at(bytes, i);
     let b1 = byte_at(bytes, i + 1);

@@ -1,5 +1,5 @@
 use mathlib.Core.Path.{_∙_, ap}
-use Rattle.input.specs.Line.{lineFor}
+use Rattle.input.specs.Line.{reportLine}
 use borrow.Author.Needs.{needs}
 use Rattle.input_code.proofs.answering.answer.Statement.{statement}
 use Rattle.input_code.proofs.answering.answer.Tie as tie
@@ -11,7 +11,7 @@ line-for-requires : tie.Need-line-for-requires
 line-for-requires c κs = search needs
 
 returns : tie.Need-returns
-returns c = (c .line-for .ensures .0 ∙ ap lineFor (c .before .outcome .ensures), c .line-for .ensures .1)
+returns c = (c .line-for .ensures .0 ∙ ap reportLine (c .before .outcome .ensures), c .line-for .ensures .1)
 
 pub answer-spec : {M : Type 1} → statement M
 answer-spec = tie.close (tie.spec outcome-requires line-for-requires returns)

@@ -5,7 +5,7 @@ use native.Mathlib.Omega.{arith}
 use lib.ListN.{length, take, drop}
 use lib.Seq.{length-take-le}
 use Rattle.lists.proofs.Slices.{split, part-rest}
-use Rattle.fields.specs.Bytes.{numberOf}
+use Rattle.fields.specs.Bytes.{numberIn}
 use Rattle.fields.proofs.Elements.{elements-take}
 use Rattle.batch.specs.Walk.{Walk, step}
 use Rattle.batch.specs.declared.Lengths.{Lengths}
@@ -99,7 +99,7 @@ returns-2 c =
     let len = start-length (a .held) need 4 (a .old) (a .piece .now) (p .result) (p .ensures .1) (omega arith) enough size (p .ensures .0) in
     let some = length-take-le need (a .piece .now) enough in
     let whole = filled (a .held) need 4 (a .old) (a .piece .now) (p .result) (p .ensures .1) (omega arith) enough size (p .ensures .0) in
-    let word = c .before .before .before .before .word-at .ensures ∙ ap numberOf (elements-take (p .result) 4 (omega (arith, p .ensures .1)) ∙ whole) in
+    let word = c .before .before .before .before .word-at .ensures ∙ ap numberIn (elements-take (p .result) 4 (omega (arith, p .ensures .1)) ∙ whole) in
     c .from-word .ensures
     ∙ ap (foldl feed (body (h .result .lengths) (walkIn (h .result)) [])) (part-rest need (a .piece .now))
     ∙ ap (λ (x : Input). foldl feed x (drop need (a .piece .now)))

@@ -4,7 +4,7 @@ use Prim.Native.Nat.{ℕ, suc, _+_}
 use native.Mathlib.Omega.{arith}
 use borrow.Author.Needs.{needs}
 use lib.ListN.{getD}
-use Rattle.fields.specs.Bytes.{numberOf, elements}
+use Rattle.fields.specs.Bytes.{numberIn, elements}
 use Rattle.input_code.proofs.numbers.word_at.Statement.{statement}
 use Rattle.input_code.proofs.numbers.word_at.Tie as tie
 
@@ -43,7 +43,7 @@ number32-requires c κs = search needs
 returns : tie.Need-returns
 returns c =
     let a = c .before .before .before .before .before .before .args in
-    c .number32 .ensures ∙ ap numberOf (four (a .bytes .now) (a .at))
+    c .number32 .ensures ∙ ap numberIn (four (a .bytes .now) (a .at))
 
 pub word-at-spec : {M : Type 1} → statement M
 word-at-spec =

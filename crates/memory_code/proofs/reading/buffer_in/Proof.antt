@@ -6,14 +6,14 @@ use native.Mathlib.Omega.{arith}
 use borrow.Author.Needs.{needs}
 use lib.Seq.{take-all}
 use lib.ListN.{length}
-use Rattle.memory.specs.Memory.{bufferIn}
+use Rattle.memory.specs.Memory.{storedBuffer}
 use Rattle.memory.proofs.MemoryLaws.{buffer-length, buffer-at}
 use Rattle.memory_code.proofs.CopyLaws.{Copied, copied-one, copied-all}
 use Rattle.memory_code.proofs.reading.buffer_in.Statement.{statement}
 use Rattle.memory_code.proofs.reading.buffer_in.Tie as tie
 
 abbrev Inv-loop : tie.InvT-loop
-Inv-loop memory buffer₀ i₀ buffer i = Copied 61 [] 0 (bufferIn memory) i buffer
+Inv-loop memory buffer₀ i₀ buffer i = Copied 61 [] 0 (storedBuffer memory) i buffer
 
 abbrev μ-loop : tie.MeasureT-loop
 μ-loop memory buffer₀ i₀ buffer i = 61 - i
@@ -49,14 +49,14 @@ loop-again : tie.Need-loop-again Inv-loop μ-loop
 loop-again c =
     let l = c .before .before .loop in
     let m = c .before .before .before .args .memory .now in
-    copied-one 61 [] 0 (bufferIn m) (l .i) (l .buffer) (l .i) _ (omega (arith, buffer-length m)) (omega (arith, buffer-length m, c .before .loop-test .taken)) (sym (zero-add (l .i))) (sym (buffer-at m (l .i) (c .before .loop-test .taken))) (l .inv)
+    copied-one 61 [] 0 (storedBuffer m) (l .i) (l .buffer) (l .i) _ (omega (arith, buffer-length m)) (omega (arith, buffer-length m, c .before .loop-test .taken)) (sym (zero-add (l .i))) (sym (buffer-at m (l .i) (c .before .loop-test .taken))) (l .inv)
 
 returns : tie.Need-returns Inv-loop μ-loop
 returns c =
     let m = c .before .before .args .memory .now in
     let l = c .before .loop in
-    sym (take-all (0 + length (bufferIn m)) (l .buffer) (omega (arith, buffer-length m, l .inv .1 .0)))
-    ∙ copied-all 61 [] 0 (bufferIn m) (l .i) (l .buffer) (omega (arith, buffer-length m, c .loop-test .left)) (l .inv)
+    sym (take-all (0 + length (storedBuffer m)) (l .buffer) (omega (arith, buffer-length m, l .inv .1 .0)))
+    ∙ copied-all 61 [] 0 (storedBuffer m) (l .i) (l .buffer) (omega (arith, buffer-length m, c .loop-test .left)) (l .inv)
 
 pub buffer-in-spec : {M : Type 1} → statement M
 buffer-in-spec =

@@ -3,7 +3,7 @@ use mathlib.Core.Bool.{false}
 use mathlib.Core.List.{_++_}
 use Rattle.answers.proofs.Judging.{judged-append}
 use Rattle.records.specs.Layout.{fillerPart, forwardPart, backwardPart}
-use Rattle.records.specs.RecordRules.{hasForward, hasBackward, unused, zeroRules}
+use Rattle.records.specs.RecordRules.{hasForward, hasBackward, unusedPart, zeroRules}
 use borrow.Author.Needs.{needs}
 use Rattle.records_code.proofs.rules.zeros_fault.Statement.{statement}
 use Rattle.records_code.proofs.rules.zeros_fault.Tie as tie
@@ -28,10 +28,10 @@ unfolding zeroRules
 returns c =
     let bytes = now (c .before .before .before .before .before .before .args .bytes) in
     let kind = c .before .before .before .before .before .before .args .kind in
-    let forward = unused (hasForward kind) forwardPart bytes in
-    let backward = unused (hasBackward kind) backwardPart bytes in
+    let forward = unusedPart (hasForward kind) forwardPart bytes in
+    let backward = unusedPart (hasBackward kind) backwardPart bytes in
     let vectors = judged-append forward backward in
-    let all = judged-append (unused false fillerPart bytes) (forward ++ backward) in
+    let all = judged-append (unusedPart false fillerPart bytes) (forward ++ backward) in
     cc
 
 pub zeros-fault-spec : {M : Type 1} → statement M
