@@ -40,39 +40,22 @@ pub(crate) fn record_of(macroblock: Macroblock) -> [u8; 24]
 {
     let case = macroblock.case;
     let motion = macroblock_code::motion_of(case);
-    let column = fields_code::bytes16(macroblock.column);
-    let row = fields_code::bytes16(macroblock.row);
-    let upper = fields_code::bytes16(macroblock.upper);
-    let forward = fields_code::bytes32(motion.forward);
-    let backward = fields_code::bytes32(motion.backward);
     let skip = fields_code::flag_of(macroblock.skip) as u8;
     let flags = flags_byte(macroblock.flags);
-    [
-        column[0],
-        column[1],
-        row[0],
-        row[1],
-        upper[0],
-        upper[1],
-        motion.kind,
-        skip,
-        macroblock.pattern,
-        macroblock.max_size,
-        macroblock.target_size,
-        macroblock.quantiser,
-        flags,
-        0,
-        0,
-        0,
-        forward[0],
-        forward[1],
-        forward[2],
-        forward[3],
-        backward[0],
-        backward[1],
-        backward[2],
-        backward[3],
-    ]
+    let mut record = [0; 24];
+    record[numbers::KIND] = motion.kind;
+    record[numbers::SKIP] = skip;
+    record[numbers::PATTERN] = macroblock.pattern;
+    record[numbers::MAX_SIZE] = macroblock.max_size;
+    record[numbers::TARGET_SIZE] = macroblock.target_size;
+    record[numbers::QUANTISER] = macroblock.quantiser;
+    record[numbers::FLAGS] = flags;
+    numbers::put32(&mut record, numbers::BACKWARD, motion.backward);
+    numbers::put32(&mut record, numbers::FORWARD, motion.forward);
+    numbers::put16(&mut record, numbers::UPPER, macroblock.upper);
+    numbers::put16(&mut record, numbers::ROW, macroblock.row);
+    numbers::put16(&mut record, numbers::COLUMN, macroblock.column);
+    record
 }
 
 // The kind and the vectors of a record.

@@ -2,7 +2,8 @@
 ghost use mathlib.Core.Path.{_≡_};
 ghost use Prim.Native.Nat.{_≤_};
 ghost use lib.ListN.{getD};
-ghost use Rattle.fields.specs.Bytes.{numberIn, elements};
+ghost use lib.Seq.{sets};
+ghost use Rattle.fields.specs.Bytes.{bytesOf, numberIn, elements};
 
 // The first byte of each part; specs/Layout.antt has them with their counts.
 pub(crate) const COLUMN: usize = 0;
@@ -63,4 +64,23 @@ pub(crate) fn number32_at(bytes: &[u8], i: usize) -> u32
     let b2 = byte_at(bytes, i + 2);
     let b3 = byte_at(bytes, i + 3);
     fields_code::number32(b0, b1, b2, b3)
+}
+
+// Puts a number of two or four bytes into a record.
+pub(crate) fn put16(bytes: &mut [u8; 24], i: usize, n: u16)
+    requires { ⌜ i ≤ 22 ⌝ }
+    ensures { λ _. ⌜ now (bytes .exit) ≡ sets (now (bytes .entry)) i (bytesOf 2 n) ⌝ }
+{
+    let two = fields_code::bytes16(n);
+    bytes[i] = two[0];
+    bytes[i + 1] = two[1];
+}
+
+pub(crate) fn put32(bytes: &mut [u8; 24], i: usize, n: u32)
+    requires { ⌜ i ≤ 20 ⌝ }
+    ensures { λ _. ⌜ now (bytes .exit) ≡ sets (now (bytes .entry)) i (bytesOf 4 n) ⌝ }
+{
+    let halves = fields_code::halves_of(n);
+    put16(bytes, i, halves.low);
+    put16(bytes, i + 2, halves.high);
 }

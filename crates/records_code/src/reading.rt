@@ -6,7 +6,7 @@ ghost use mathlib.Core.Path.{_≡_};
 ghost use Rattle.records.specs.Layout.{recordLength};
 ghost use Rattle.records.specs.Records.{recordOf};
 ghost use Rattle.answers.specs.Lending.{roomFor, lentAfter};
-ghost use Rattle.records.specs.Alone.{readAnswer, readRoom};
+ghost use Rattle.records.specs.Alone.{readFault, readAnswer, readRoom};
 
 // Writes a macroblock's record into the first 24 bytes of room.
 pub fn write_record(macroblock: Macroblock, room: &mut [u8]) -> Answer
@@ -20,9 +20,9 @@ pub fn write_record(macroblock: Macroblock, room: &mut [u8]) -> Answer
     Answer::Accepted
 }
 
-// Reads one MACROBLOCK command into the first 24 bytes of room.
-pub fn read_command(words: &[u32], room: &mut [u8]) -> Answer
-    ensures { λ r. ⌜ (r ≡ readAnswer (now (words .entry)) (now (room .entry))) × (now (room .exit) ≡ readRoom (now (words .entry)) (now (room .entry))) ⌝ }
+// The rule that one MACROBLOCK command alone breaks first.
+fn command_fault(words: &[u32]) -> Answer
+    ensures { λ r. ⌜ r ≡ readFault (now (words .entry)) ⌝ }
 {
     if words.len() == 0 {
         return Answer::Refused(1, 0);
@@ -33,7 +33,14 @@ pub fn read_command(words: &[u32], room: &mut [u8]) -> Answer
     if words.len() < 9 {
         return Answer::Refused(1, words.len() as u64);
     }
-    let fault = macroblock_code::fault_of(words);
+    macroblock_code::fault_of(words)
+}
+
+// Reads one MACROBLOCK command into the first 24 bytes of room.
+pub fn read_command(words: &[u32], room: &mut [u8]) -> Answer
+    ensures { λ r. ⌜ (r ≡ readAnswer (now (words .entry)) (now (room .entry))) × (now (room .exit) ≡ readRoom (now (words .entry)) (now (room .entry))) ⌝ }
+{
+    let fault = command_fault(words);
     if let Answer::Refused(_, _) = fault {
         return fault;
     }

@@ -7,6 +7,7 @@ ghost use mathlib.Core.Path.{_≡_};
 ghost use mathlib.Core.List.{[], _∷_};
 ghost use Prim.Native.Nat.{_+_, _≤_};
 ghost use Rattle.answers.specs.Answers.{judged};
+ghost use Rattle.records.specs.Alone.{recordFault};
 ghost use Rattle.records.specs.Layout.{kindPart, skipPart, patternPart, quantiserPart, flagsPart};
 ghost use Rattle.records.specs.RecordRules.{bad, zeroBytes, unusedBytes, byteRules, zeroRules, recordRules};
 
@@ -79,11 +80,21 @@ fn zeros_fault(bytes: &[u8], kind: u8) -> Answer
 }
 
 // The first bad byte of 24.
-pub(crate) fn first_bad(bytes: &[u8]) -> Answer
+fn first_bad(bytes: &[u8]) -> Answer
     ensures { λ r. ⌜ r ≡ judged (recordRules (now (bytes .entry))) ⌝ }
 {
     let kept = macroblock_code::kept_by(layout::macroblock_in(bytes));
     let fields = field_fault(bytes, kept);
     let zeros = zeros_fault(bytes, numbers::number8_at(bytes, numbers::KIND));
     answers_code::earlier(fields, zeros)
+}
+
+// The first bad byte of a record, byte 0 where it has not 24.
+pub(crate) fn record_fault(bytes: &[u8]) -> Answer
+    ensures { λ r. ⌜ r ≡ recordFault (now (bytes .entry)) ⌝ }
+{
+    if bytes.len() != 24 {
+        return Answer::Refused(15, 0);
+    }
+    first_bad(bytes)
 }

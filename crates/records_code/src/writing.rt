@@ -24,10 +24,7 @@ fn copy_words(words: &[u32], room: &mut [u32])
 pub fn write_command(bytes: &[u8], room: &mut [u32]) -> Answer
     ensures { λ r. ⌜ (r ≡ writeAnswer (now (bytes .entry)) (now (room .entry))) × (now (room .exit) ≡ writeRoom (now (bytes .entry)) (now (room .entry))) ⌝ }
 {
-    if bytes.len() != 24 {
-        return Answer::Refused(15, 0);
-    }
-    let fault = rules::first_bad(bytes);
+    let fault = rules::record_fault(bytes);
     if let Answer::Refused(_, _) = fault {
         return fault;
     }

@@ -1,3 +1,4 @@
+-- The kind and the vectors are the numbers that were read.
 use borrow.Author.Needs.{needs}
 use Rattle.records_code.proofs.layout.motion_in.Statement.{statement}
 use Rattle.records_code.proofs.layout.motion_in.Tie as tie
@@ -12,7 +13,7 @@ number32-at-requires-2 : tie.Need-number32-at-requires-2
 number32-at-requires-2 c κs = search needs
 
 returns : tie.Need-returns
-returns c = cc
+returns c = rw (c .before .before .number8-at .ensures, c .before .number32-at .ensures, c .number32-at2 .ensures)
 
 pub motion-in-spec : {M : Type 1} → statement M
 motion-in-spec =

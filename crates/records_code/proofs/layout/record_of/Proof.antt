@@ -1,7 +1,11 @@
+-- The bytes that are put into a record are those of its parts.
 use mir.Syntax.{w8}
 use mir.Val.{Fits}
-use mathlib.Core.Path.{sym, ap, subst, _∙_}
+use mathlib.Core.Path.{_≡_, refl, sym, ap, subst, _∙_}
+use mathlib.Core.List.{List}
+use Prim.Native.Nat.{ℕ, _<_}
 use native.Mathlib.Omega.{arith}
+use lib.Seq.{sets}
 use Rattle.macroblock.specs.declared.Motion.{Motion}
 use Rattle.fields.specs.Bytes.{bytesOf}
 use Rattle.records.proofs.Spelling.{flag-fits, spelled}
@@ -9,118 +13,116 @@ use borrow.Author.Needs.{needs}
 use Rattle.records_code.proofs.layout.record_of.Statement.{statement}
 use Rattle.records_code.proofs.layout.record_of.Tie as tie
 
+-- the numbers that are given as bytes
+module _ (c : tie.Start) where
+  pattern-fits : c .args .macroblock .pattern < 256
+  pattern-fits = omega arith
+
+  max-fits : c .args .macroblock .«max_size» < 256
+  max-fits = omega arith
+
+  target-fits : c .args .macroblock .«target_size» < 256
+  target-fits = omega arith
+
+  quantiser-fits : c .args .macroblock .quantiser < 256
+  quantiser-fits = omega arith
+
+-- one part more
+put : {to from base : List ℕ} (i : ℕ) (part : List ℕ) → to ≡ sets from i part → from ≡ base → to ≡ sets base i part
+put i part e f = e ∙ ap (λ (l : List ℕ). sets l i part) f
+
 motion-of-requires : tie.Need-motion-of-requires
 motion-of-requires c κs = search needs
-
-bytes16-requires : tie.Need-bytes16-requires
-bytes16-requires c κs = search needs
-
-bytes16-requires-2 : tie.Need-bytes16-requires-2
-bytes16-requires-2 c κs = search needs
-
-bytes16-requires-3 : tie.Need-bytes16-requires-3
-bytes16-requires-3 c κs = search needs
-
-bytes32-requires : tie.Need-bytes32-requires
-bytes32-requires c κs = search needs
-
-bytes32-requires-2 : tie.Need-bytes32-requires-2
-bytes32-requires-2 c κs = search needs
 
 flag-of-requires : tie.Need-flag-of-requires
 flag-of-requires c κs = search needs
 
 cast-skip : tie.Need-cast-skip
-cast-skip c = subst (Fits w8) (sym (c .flag-of .ensures)) (record { fits = flag-fits (c .before .before .before .before .before .before .before .args .macroblock .skip) })
+cast-skip c = subst (Fits w8) (sym (c .flag-of .ensures)) (record { fits = flag-fits (c .before .before .args .macroblock .skip) })
 
 flags-byte-requires : tie.Need-flags-byte-requires
 flags-byte-requires c κs = search needs
 
-array-read-t16 : tie.Need-array-read-t16
-array-read-t16 c = search needs
+array-write-record : tie.Need-array-write-record
+array-write-record c = search needs
 
-array-read-t19 : tie.Need-array-read-t19
-array-read-t19 c = search needs
+array-write-record-2 : tie.Need-array-write-record-2
+array-write-record-2 c = search needs
 
-array-read-t22 : tie.Need-array-read-t22
-array-read-t22 c = search needs
+array-write-record-3 : tie.Need-array-write-record-3
+array-write-record-3 c = search needs
 
-array-read-t25 : tie.Need-array-read-t25
-array-read-t25 c = search needs
+array-write-record-4 : tie.Need-array-write-record-4
+array-write-record-4 c = search needs
 
-array-read-t28 : tie.Need-array-read-t28
-array-read-t28 c = search needs
+array-write-record-5 : tie.Need-array-write-record-5
+array-write-record-5 c = search needs
 
-array-read-t31 : tie.Need-array-read-t31
-array-read-t31 c = search needs
+array-write-record-6 : tie.Need-array-write-record-6
+array-write-record-6 c = search needs
 
-array-read-t34 : tie.Need-array-read-t34
-array-read-t34 c = search needs
+array-write-record-7 : tie.Need-array-write-record-7
+array-write-record-7 c = search needs
 
-array-read-t37 : tie.Need-array-read-t37
-array-read-t37 c = search needs
+put32-requires : tie.Need-put32-requires
+put32-requires c κs = search needs
 
-array-read-t40 : tie.Need-array-read-t40
-array-read-t40 c = search needs
+put32-requires-2 : tie.Need-put32-requires-2
+put32-requires-2 c κs = search needs
 
-array-read-t43 : tie.Need-array-read-t43
-array-read-t43 c = search needs
+put16-requires : tie.Need-put16-requires
+put16-requires c κs = search needs
 
-array-read-t46 : tie.Need-array-read-t46
-array-read-t46 c = search needs
+put16-requires-2 : tie.Need-put16-requires-2
+put16-requires-2 c κs = search needs
 
-array-read-t49 : tie.Need-array-read-t49
-array-read-t49 c = search needs
-
-array-read-t52 : tie.Need-array-read-t52
-array-read-t52 c = search needs
-
-array-read-t55 : tie.Need-array-read-t55
-array-read-t55 c = search needs
+put16-requires-3 : tie.Need-put16-requires-3
+put16-requires-3 c κs = search needs
 
 returns : tie.Need-returns
 returns c =
-    let m = c .before .before .before .before .before .before .before .before .args .macroblock in
-    let motion = c .before .before .before .before .before .before .before .motion-of .ensures in
-    spelled m
-    (omega arith)
-    (omega arith)
-    (omega arith)
-    (omega arith)
-    (c .before .before .before .before .before .before .bytes16 .ensures)
-    (c .before .before .before .before .before .bytes162 .ensures)
-    (c .before .before .before .before .bytes163 .ensures)
+    let last = c .before .before .before .before .before .before .before .before .before .before in
+    let start = last .before .before .before in
+    let m = start .args .macroblock in
+    let forward = last .before .before .motion-of .result .forward in
+    let motion = last .before .before .motion-of .ensures in
+    put 0 (bytesOf 2 (m .column)) (c .put163 .ensures)
+    (put 2 (bytesOf 2 (m .row)) (c .before .before .put162 .ensures)
+    (put 4 (bytesOf 2 (m .upper)) (c .before .before .before .before .put16 .ensures)
+    (put 16 (bytesOf 4 forward) (c .before .before .before .before .before .before .put322 .ensures)
+    (c .before .before .before .before .before .before .before .before .put32 .ensures))))
+    ∙ spelled m
+    (pattern-fits start)
+    (max-fits start)
+    (target-fits start)
+    (quantiser-fits start)
+    refl
+    refl
+    refl
     (ap (λ (x : Motion). x .kind) motion)
-    (c .before .flag-of .ensures)
-    (c .flags-byte .ensures)
-    (c .before .before .before .bytes32 .ensures ∙ ap (λ (x : Motion). bytesOf 4 (x .forward)) motion)
-    (c .before .before .bytes322 .ensures ∙ ap (λ (x : Motion). bytesOf 4 (x .backward)) motion)
+    (last .before .flag-of .ensures)
+    (last .flags-byte .ensures)
+    (ap (λ (x : Motion). bytesOf 4 (x .forward)) motion)
+    (ap (λ (x : Motion). bytesOf 4 (x .backward)) motion)
 
 pub record-of-spec : {M : Type 1} → statement M
 record-of-spec =
     tie.close
     (tie.spec
     motion-of-requires
-    bytes16-requires
-    bytes16-requires-2
-    bytes16-requires-3
-    bytes32-requires
-    bytes32-requires-2
     flag-of-requires
     cast-skip
     flags-byte-requires
-    array-read-t16
-    array-read-t19
-    array-read-t22
-    array-read-t25
-    array-read-t28
-    array-read-t31
-    array-read-t34
-    array-read-t37
-    array-read-t40
-    array-read-t43
-    array-read-t46
-    array-read-t49
-    array-read-t52
-    array-read-t55
+    array-write-record
+    array-write-record-2
+    array-write-record-3
+    array-write-record-4
+    array-write-record-5
+    array-write-record-6
+    array-write-record-7
+    put32-requires
+    put32-requires-2
+    put16-requires
+    put16-requires-2
+    put16-requires-3
     returns)

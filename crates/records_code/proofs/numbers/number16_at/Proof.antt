@@ -1,4 +1,5 @@
-use mathlib.Core.Path.{_≡_}
+-- The number of two bytes that stand one behind the other.
+use mathlib.Core.Path.{_≡_, _∙_}
 use Prim.Native.Nat.{suc, _+_}
 use native.Mathlib.Omega.{arith}
 use borrow.Author.Needs.{needs}
@@ -21,7 +22,7 @@ returns : tie.Need-returns
 returns c =
     let i = c .before .before .before .before .args .i in
     let e1 : i + 1 ≡ suc i = omega arith in
-    cc
+    c .number16 .ensures ∙ rw (c .before .before .byte-at .ensures, c .before .byte-at2 .ensures, e1)
 
 pub number16-at-spec : {M : Type 1} → statement M
 number16-at-spec =

@@ -1,4 +1,5 @@
-use mathlib.Core.Path.{_≡_}
+-- The number of four bytes that stand one behind the other.
+use mathlib.Core.Path.{_≡_, _∙_}
 use Prim.Native.Nat.{suc, _+_}
 use native.Mathlib.Omega.{arith}
 use borrow.Author.Needs.{needs}
@@ -35,7 +36,8 @@ returns c =
     let e1 : i + 1 ≡ suc i = omega arith in
     let e2 : i + 2 ≡ suc (suc i) = omega arith in
     let e3 : i + 3 ≡ suc (suc (suc i)) = omega arith in
-    cc
+    let b = c .before .before in
+    c .number32 .ensures ∙ rw (b .before .before .byte-at .ensures, b .before .byte-at2 .ensures, b .byte-at3 .ensures, c .before .byte-at4 .ensures, e1, e2, e3)
 
 pub number32-at-spec : {M : Type 1} → statement M
 number32-at-spec =

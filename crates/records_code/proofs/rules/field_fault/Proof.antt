@@ -1,3 +1,4 @@
+-- Each test is of the number that was read.
 use Rattle.records.specs.RecordRules.{byteRules}
 use borrow.Author.Needs.{needs}
 use Rattle.records_code.proofs.rules.field_fault.Statement.{statement}
@@ -20,7 +21,9 @@ first-of-requires c κs = search needs
 
 returns : tie.Need-returns
 unfolding byteRules
-returns c = cc
+returns c =
+    let b = c .before .before .before .before .before in
+    rw (c .first-of .ensures, b .before .before .number8-at .ensures, b .before .number8-at2 .ensures, c .before .before .before .before .number8-at3 .ensures, c .before .before .number8-at4 .ensures)
 
 pub field-fault-spec : {M : Type 1} → statement M
 field-fault-spec =

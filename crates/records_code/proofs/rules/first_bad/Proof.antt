@@ -1,4 +1,6 @@
+-- The first bad byte of all is that of the fields or that of the zeros.
 use denote.Ref.{now}
+use mathlib.Core.Path.{_∙_}
 use Rattle.answers.proofs.Judging.{judged-append}
 use Rattle.macroblock.specs.Rules.{keptBy}
 use Rattle.records.specs.Layout.{kindPart}
@@ -31,7 +33,9 @@ unfolding recordRules
 returns c =
     let bytes = now (c .before .before .before .before .before .before .before .args .bytes) in
     let both = judged-append (byteRules bytes (keptBy (macroblockIn bytes))) (zeroRules bytes (valueAt kindPart bytes)) in
-    cc
+    let found = c .before .before .before in
+    c .earlier .ensures
+    ∙ rw (c .before .zeros-fault .ensures, c .before .before .number8-at .ensures, found .field-fault .ensures, found .before .kept-by .ensures, found .before .before .macroblock-in .ensures, both)
 
 pub first-bad-spec : {M : Type 1} → statement M
 first-bad-spec =

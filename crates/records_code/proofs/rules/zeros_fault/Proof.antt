@@ -1,5 +1,7 @@
+-- The first bad byte of the three parts is found part by part.
 use denote.Ref.{now}
 use mathlib.Core.Bool.{false}
+use mathlib.Core.Path.{_∙_}
 use mathlib.Core.List.{_++_}
 use Rattle.answers.proofs.Judging.{judged-append}
 use Rattle.records.specs.Layout.{fillerPart, forwardPart, backwardPart}
@@ -32,7 +34,8 @@ returns c =
     let backward = unusedPart (hasBackward kind) backwardPart bytes in
     let vectors = judged-append forward backward in
     let all = judged-append (unusedPart false fillerPart bytes) (forward ++ backward) in
-    cc
+    c .earlier2 .ensures
+    ∙ rw (c .before .earlier .ensures, c .before .before .unused-fault3 .ensures, c .before .before .before .unused-fault2 .ensures, c .before .before .before .before .unused-fault .ensures, all, vectors)
 
 pub zeros-fault-spec : {M : Type 1} → statement M
 zeros-fault-spec =

@@ -1,50 +1,39 @@
+-- A refusal leaves room as it was; else the words of the record's macroblock are written.
 use mathlib.Core.Path.{sym, ap, _∙_}
 use denote.Ref.{now}
 use Rattle.answers.proofs.LendingLaws.{lacks-room, placed-all, refuses, writes}
 use Rattle.macroblock.specs.Macroblocks.{wordsOf}
 use Rattle.records.specs.Alone.{recordFault, writeAnswer, writeRoom}
 use Rattle.records.specs.Records.{macroblockIn}
-use Rattle.records.proofs.AloneTests.{other-length, right-length}
 use borrow.Author.Needs.{needs}
 use Rattle.records_code.proofs.writing.write_command.Statement.{statement}
 use Rattle.records_code.proofs.writing.write_command.Tie as tie
 
-returns : tie.Need-returns
-unfolding writeAnswer writeRoom
-returns c =
-    let bytes = now (c .before .before .before .args .bytes) in
-    let room = now (c .before .before .before .args .room) in
-    let new = wordsOf (macroblockIn bytes) in
-    refuses (recordFault bytes) 9 new room 15 0 (other-length bytes (c .if1 .taken))
-
-first-bad-requires : tie.Need-first-bad-requires
-first-bad-requires c κs = search needs
+record-fault-requires : tie.Need-record-fault-requires
+record-fault-requires c κs = search needs
 
 enum-told : tie.Need-enum-told
 enum-told c = search needs
+
+returns : tie.Need-returns
+unfolding writeAnswer writeRoom
+returns c =
+    let bytes = now (c .before .before .before .before .before .args .bytes) in
+    let room = now (c .before .before .before .before .before .args .room) in
+    let is = c .enum-told .given .1 in
+    let end = refuses (recordFault bytes) 9 (wordsOf (macroblockIn bytes)) room _ _ (sym (c .before .before .record-fault .ensures) ∙ is) in
+    (is ∙ end .0, end .1)
+
+enum-told-2 : tie.Need-enum-told-2
+enum-told-2 c = search needs
 
 returns-2 : tie.Need-returns-2
 unfolding writeAnswer writeRoom
 returns-2 c =
     let bytes = now (c .before .before .before .before .before .before .args .bytes) in
     let room = now (c .before .before .before .before .before .before .args .room) in
-    let new = wordsOf (macroblockIn bytes) in
-    let judged = right-length bytes (c .before .before .before .if1 .left) in
-    let is = c .enum-told .given .1 in
-    let end = refuses (recordFault bytes) 9 new room _ _ (judged ∙ sym (c .before .before .first-bad .ensures) ∙ is) in
-    (is ∙ end .0, end .1)
-
-enum-told-2 : tie.Need-enum-told-2
-enum-told-2 c = search needs
-
-returns-3 : tie.Need-returns-3
-unfolding writeAnswer writeRoom
-returns-3 c =
-    let bytes = now (c .before .before .before .before .before .before .before .args .bytes) in
-    let room = now (c .before .before .before .before .before .before .before .args .room) in
-    let new = wordsOf (macroblockIn bytes) in
-    let judged = right-length bytes (c .before .before .before .before .if1 .left) in
-    lacks-room (recordFault bytes) 9 new room (judged ∙ sym (c .before .before .before .first-bad .ensures) ∙ c .before .enum-told2 .given .1) (c .if2 .taken)
+    let fault = sym (c .before .before .before .record-fault .ensures) ∙ c .before .enum-told2 .given .1 in
+    lacks-room (recordFault bytes) 9 (wordsOf (macroblockIn bytes)) room fault (c .if1 .taken)
 
 macroblock-in-requires : tie.Need-macroblock-in-requires
 macroblock-in-requires c κs = search needs
@@ -61,30 +50,29 @@ copy-words-requires c κs = search needs
 same-length : tie.Need-same-length
 same-length c = search needs
 
-returns-4 : tie.Need-returns-4
+returns-3 : tie.Need-returns-3
 unfolding writeAnswer writeRoom
-returns-4 c =
-    let bytes = now (c .before .before .before .before .before .before .before .before .before .before .before .before .before .before .args .bytes) in
-    let room = now (c .before .before .before .before .before .before .before .before .before .before .before .before .before .before .args .room) in
+returns-3 c =
+    let told = c .before .before .before .before .before .before .before .before in
+    let bytes = now (told .before .before .before .before .before .args .bytes) in
+    let room = now (told .before .before .before .before .before .args .room) in
     let new = wordsOf (macroblockIn bytes) in
-    let judged = right-length bytes (c .before .before .before .before .before .before .before .before .before .before .before .if1 .left) in
-    let fault = judged ∙ sym (c .before .before .before .before .before .before .before .before .before .before .first-bad .ensures) ∙ c .before .before .before .before .before .before .before .before .enum-told2 .given .1 in
-    writes (recordFault bytes) 9 new room _ fault (c .before .before .before .before .before .before .before .if2 .left)
+    let fault = sym (told .before .before .record-fault .ensures) ∙ told .enum-told2 .given .1 in
+    writes (recordFault bytes) 9 new room _ fault (c .before .before .before .before .before .before .before .if1 .left)
     (placed-all new room _ _ (c .before .before .before .before .before .words-of .ensures ∙ ap wordsOf (c .before .before .before .before .before .before .macroblock-in .ensures)) (c .before .before .copy-words .ensures))
 
 pub write-command-spec : {M : Type 1} → statement M
 write-command-spec =
     tie.close
     (tie.spec
-    returns
-    first-bad-requires
+    record-fault-requires
     enum-told
-    returns-2
+    returns
     enum-told-2
-    returns-3
+    returns-2
     macroblock-in-requires
     words-of-requires
     slice-aggregate-copy-words
     copy-words-requires
     same-length
-    returns-4)
+    returns-3)
