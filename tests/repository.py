@@ -8,6 +8,7 @@
   at a fact, not because the proof no longer fits the code: a wrong definition by the law that it names, a wrong program in the proof of
   the very function that it changes.
 - Every name that docs/CLAIMS.md cites stands in the file that it cites, and every edit that it cites is there.
+- Laws that a crate of definitions has for its functions alone (`proofs/Lib.antt`) are cited by nobody else.
 - No law above `prediction` unfolds one of its definitions, worked numbers apart; its code may.
 - No function between a vector word and its components divides, takes a remainder or multiplies.
 - Nothing names a path of one machine.
@@ -190,6 +191,22 @@ def check_claims():
     return len(cited) + len(tried)
 
 
+def check_borders():
+    """What stands in `proofs/Lib.antt` behind '-- for its functions alone' is cited by the crate of these functions only."""
+    count = 0
+    for lib in sorted(root.glob('crates/*/proofs/Lib.antt')):
+        name = lib.parent.parent.name
+        section = re.search(r'^-- for its functions alone\n((?:pub mod \w+\n)+)', lib.read_text(), re.M)
+        private = set(re.findall(r'pub mod (\w+)', section[1])) if section else set()
+        count += len(private)
+        for file in sorted(root.glob('crates/*/*/**/*.antt')) if private else []:
+            crate = file.relative_to(root / 'crates').parts[0]
+            cited = set(re.findall(rf'^use Rattle\.{name}\.proofs\.(\w+)', file.read_text(), re.M))
+            if crate != f'{name}_code':
+                faults.extend(f'{file.relative_to(root)}: cites {law} of {name}, which is for {name}_code alone' for law in sorted(cited & private))
+    return count
+
+
 def check_unfolding():
     """Worked numbers compute; every other law above `prediction` cites what it promises."""
     count = 0
@@ -249,6 +266,7 @@ counts = {
     'public functions': check_contracts(),
     'refused wrong answers': check_refusals(),
     'citations': check_claims(),
+    'files of laws for functions alone': check_borders(),
     'laws and proofs above prediction': check_unfolding(),
     'functions between a word and its components': check_halves(),
     'files': check_paths(),

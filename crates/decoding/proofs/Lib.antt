@@ -1,6 +1,7 @@
 -- for the crates above
 pub mod DecodingLaws
 pub mod DecodingLengths
+-- for its functions alone
 pub mod LogLaws
 pub mod Outcomes
 pub mod RoomLaws

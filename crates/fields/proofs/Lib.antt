@@ -2,7 +2,8 @@
 pub mod Elements
 pub mod Fields
 pub mod LittleEndian
-pub mod Masks
 pub mod Packing
+-- for its functions alone
+pub mod Masks
 -- for this crate alone
 mod Worked

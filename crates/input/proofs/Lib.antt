@@ -1,5 +1,6 @@
 -- for the crates above
-pub mod Feeding
 pub mod Pieces
+-- for its functions alone
+pub mod Feeding
 -- for this crate alone
 mod Worked

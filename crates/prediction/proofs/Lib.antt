@@ -1,13 +1,14 @@
 -- for the crates above
-pub mod AddressGrows
 pub mod BlockLaws
-pub mod CodeRange
-pub mod Components
 pub mod ExtentLaws
-pub mod Integers
-pub mod LineCode
 pub mod LineLaws
 pub mod TwosComplement
+-- for its functions alone
+pub mod AddressGrows
+pub mod CodeRange
+pub mod Components
+pub mod Integers
+pub mod LineCode
 -- for this crate alone
 mod AddressOnce
 mod BlockBytes

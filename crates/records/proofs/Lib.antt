@@ -1,8 +1,9 @@
 -- for the crates above
-pub mod FlagsByte
-pub mod AloneTests
 pub mod RecordLaws
 pub mod RoundTrips
+-- for its functions alone
+pub mod AloneTests
+pub mod FlagsByte
 pub mod Spelling
 -- for this crate alone
 mod Worked

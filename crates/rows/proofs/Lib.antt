@@ -1,4 +1,4 @@
--- for the crates above
+-- for its functions alone
 pub mod Going
 -- for this crate alone
 mod Keeping

@@ -1,3 +1,4 @@
+-- `earlier`: of two answers the one that is given.
 use mathlib.Core.Path.{sym, ap₂, _∙_}
 use borrow.Author.Tests.{lt-ltb, le-ltb}
 use Rattle.answers.specs.Answers.{earlier}

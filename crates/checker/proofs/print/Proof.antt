@@ -1,3 +1,4 @@
+-- `print`: the line is written from its first bytes.
 use mathlib.Core.Path.{_≡_, sym, _∙_}
 use Prim.Native.Nat.{ℕ}
 use native.Mathlib.Omega.{arith}

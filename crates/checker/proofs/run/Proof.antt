@@ -1,3 +1,4 @@
+-- `run`: reads to the end of the input, a buffer at a time, and prints the line.
 use mathlib.Core.Path.{_≡_, refl}
 use borrow.Author.Needs.{needs}
 use lib.ListN.{length}

@@ -1,3 +1,4 @@
+-- `command_case`: one stored command, read to its record.
 use mathlib.Core.Path.{sym}
 use native.Mathlib.Omega.{arith}
 use lib.ListN.{replicate}

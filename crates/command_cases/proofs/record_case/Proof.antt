@@ -1,3 +1,4 @@
+-- `record_case`: one stored record, written as its command.
 use mathlib.Core.Path.{sym}
 use native.Mathlib.Omega.{arith}
 use lib.ListN.{replicate}

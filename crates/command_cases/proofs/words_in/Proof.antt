@@ -1,3 +1,4 @@
+-- `words_in`: the words that a case hands in, and zeros after them.
 use mathlib.Core.Path.{_≡_, refl, _∙_}
 use lib.ListN.{length-set}
 use Prim.Native.Nat.{_-_, _≤_}

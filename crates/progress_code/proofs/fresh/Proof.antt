@@ -1,3 +1,4 @@
+-- `fresh`: before the first word.
 use borrow.Author.Needs.{needs}
 use Rattle.progress.specs.Progress.{fresh}
 use Rattle.progress_code.proofs.fresh.Statement.{statement}

@@ -1,3 +1,4 @@
+-- `fill`: what the log holds before.
 use mathlib.Core.Path.{_≡_, refl}
 use Prim.Native.Nat.{_-_, _<_}
 use native.Mathlib.Omega.{arith}

@@ -1,3 +1,4 @@
+-- `print_log`: the log as hexadecimal digits; the loop ends at its length.
 use Prim.Native.Nat.{_-_}
 use native.Mathlib.Omega.{arith}
 use lib.ListN.{length}

@@ -1,3 +1,4 @@
+-- `check`: the answer to a batch with four buffers of these lengths.
 use mathlib.Core.Path.{sym, ap, _∙_}
 use borrow.Author.Needs.{needs}
 use Rattle.batch.specs.Reports.{concluding, report}

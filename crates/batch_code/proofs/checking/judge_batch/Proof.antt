@@ -1,3 +1,4 @@
+-- `judge_batch`: what a batch comes to, the buffers apart.
 use mathlib.Core.Bool.{Bool, true, false, cond}
 use mathlib.Core.List.{List, [], foldl}
 use mathlib.Core.Path.{_≡_, sym, ap, _∙_}

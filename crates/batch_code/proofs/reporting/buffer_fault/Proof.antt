@@ -1,3 +1,4 @@
+-- `buffer_fault`: the lowest buffer that is too short.
 use mathlib.Core.Path.{sym, _∙_}
 use borrow.Author.Tests.{le-leb, lt-leb}
 use Rattle.answers.proofs.Judging.{in-order}

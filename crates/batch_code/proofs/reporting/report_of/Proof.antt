@@ -1,3 +1,4 @@
+-- `report_of`: the answer to a whole batch that keeps every other rule, from what it touches.
 use mathlib.Core.Path.{sym, ap, _∙_}
 use borrow.Author.Needs.{needs}
 use Rattle.batch.specs.Reports.{reporting, measured}

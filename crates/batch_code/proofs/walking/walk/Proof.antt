@@ -1,3 +1,4 @@
+-- `walk`: a run of words, the first of them at word base of the batch, from a progress.
 use mathlib.Core.Path.{_≡_, sym, ap, _∙_}
 use mathlib.Core.List.{[]}
 use Prim.Native.Nat.{_+_}

@@ -1,3 +1,4 @@
+-- `decode`: decodes a batch with four buffers of these lengths into the log.
 use mathlib.Core.List.{[], _∷_}
 use mathlib.Core.Logic.{inl, inr}
 use mathlib.Core.Path.{sym, _∙_}

@@ -1,3 +1,4 @@
+-- `log_length`: the bytes that the log of a picture needs.
 use Prim.Native.Nat.{ℕ, _*_, _≤_, _<_}
 use native.Mathlib.Nat.{mul-le-mul}
 use native.Mathlib.Omega.{arith}

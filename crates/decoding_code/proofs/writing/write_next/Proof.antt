@@ -1,3 +1,4 @@
+-- `write_next`: writes the record of a command, the k-th MACROBLOCK if it is one, to the k-th place of the log.
 use mathlib.Core.Bool.{true, false}
 use mathlib.Core.List.{[], _∷_}
 use mathlib.Core.Logic.{inl, inr}

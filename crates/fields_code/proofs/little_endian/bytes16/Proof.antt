@@ -1,3 +1,4 @@
+-- `bytes16`: the bytes of a number, lowest first.
 use mathlib.Core.Path.{_≡_}
 use Prim.Native.Nat.{_/_, _%_}
 use native.Mathlib.Omega.{arith}

@@ -1,3 +1,4 @@
+-- `number32`: the number of some bytes, lowest first.
 use mathlib.Core.Path.{ap, _∙_}
 use Prim.Native.Nat.{ℕ}
 use Rattle.fields.specs.Word.{withBits}

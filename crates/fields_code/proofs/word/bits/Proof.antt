@@ -1,3 +1,4 @@
+-- `bits`: bits hi:lo of a word.
 use mathlib.Core.Path.{sym, ap, _∙_}
 use Prim.Native.Nat.{ℕ, _-_, _/_, _^_}
 use native.Mathlib.Omega.{arith}

@@ -1,3 +1,4 @@
+-- `has_bits`: whether bits hi:lo have a value.
 use borrow.Author.Needs.{needs}
 use Rattle.fields_code.proofs.word.has_bits.Statement.{statement}
 use Rattle.fields_code.proofs.word.has_bits.Tie as tie

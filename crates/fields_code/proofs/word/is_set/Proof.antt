@@ -1,3 +1,4 @@
+-- `is_set`: whether a bit of a word is 1.
 use borrow.Author.Needs.{needs}
 use Rattle.fields_code.proofs.word.is_set.Statement.{statement}
 use Rattle.fields_code.proofs.word.is_set.Tie as tie

@@ -1,3 +1,4 @@
+-- `ones`: a mask of the n lowest bits, of which a word has 32.
 use mathlib.Core.Path.{_≡_, ap}
 use Prim.Native.Nat.{ℕ, _-_, _^_}
 use native.Mathlib.Omega.{arith}

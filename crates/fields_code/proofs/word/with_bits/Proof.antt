@@ -1,3 +1,4 @@
+-- `with_bits`: the word with the lowest bits of value in hi:lo, and its other bits as they were.
 use mathlib.Core.Path.{sym, ap, _∙_}
 use Prim.Native.Nat.{ℕ}
 use native.Mathlib.Omega.{arith}

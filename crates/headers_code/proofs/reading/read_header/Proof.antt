@@ -1,3 +1,4 @@
+-- `read_header`: what a word begins.
 use borrow.Author.Tests.{ne-eqb}
 use Rattle.headers.specs.Headers.{headerOf, lookUp, table}
 use Rattle.headers_code.proofs.reading.read_header.Statement.{statement}

@@ -1,3 +1,4 @@
+-- `word_at`: a word of a command, 0 where there is none.
 use denote.Ref.{now}
 use lib.ListN.{List·getD-eq-default}
 use mathlib.Core.Path.{sym}

@@ -1,3 +1,4 @@
+-- `hromulice_begin`: a check with four buffers of these lengths, before its first word.
 use mathlib.Core.Path.{sym, subst}
 use borrow.Author.Needs.{needs}
 use Rattle.parts.specs.States.{Begun}

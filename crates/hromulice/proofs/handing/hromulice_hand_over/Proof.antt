@@ -1,3 +1,4 @@
+-- `hromulice_hand_over`: the next part.
 use mathlib.Core.Path.{sym, subst}
 use borrow.Author.Needs.{needs}
 use Rattle.parts.specs.declared.State.{State}

@@ -1,3 +1,4 @@
+-- `hromulice_report_of`: the answer to all words so far, taken as a whole batch.
 use mathlib.Core.Path.{ap, _∙_}
 use borrow.Author.Needs.{needs}
 use Rattle.batch.specs.Reports.{finish}

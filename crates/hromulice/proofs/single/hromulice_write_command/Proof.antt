@@ -1,3 +1,4 @@
+-- `hromulice_write_command`: writes the command of one record into the first nine words.
 use mathlib.Core.Path.{ap, _∙_}
 use borrow.Author.Needs.{needs}
 use Rattle.interface.specs.Summaries.{outcomeOf}

@@ -1,3 +1,4 @@
+-- `outcome_of`: document 01's number and place of each case of an answer.
 use mathlib.Core.Path.{ap, sym}
 use borrow.Author.Needs.{needs}
 use Rattle.interface.specs.Summaries.{outcomeOf}

@@ -1,3 +1,4 @@
+-- `summary_of`: document 01's number, place and lengths of each case of a report.
 use mathlib.Core.Path.{ap, sym, _∙_}
 use borrow.Author.Needs.{needs}
 use Rattle.interface.specs.Summaries.{summaryOf}

@@ -1,3 +1,4 @@
+-- `hromulice_check`: the answer to a batch with four buffers of these lengths.
 use mathlib.Core.Path.{ap, _∙_}
 use borrow.Author.Needs.{needs}
 use Rattle.interface.specs.Summaries.{summaryOf}

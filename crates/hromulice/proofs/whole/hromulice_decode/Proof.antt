@@ -1,3 +1,4 @@
+-- `hromulice_decode`: the same, with the records of the batch's macroblocks written to the log.
 use mathlib.Core.Path.{ap, _∙_}
 use borrow.Author.Needs.{needs}
 use Rattle.interface.specs.Summaries.{summaryOf}

@@ -1,3 +1,4 @@
+-- `answer`: the line for all bytes so far, taken as a whole input.
 use mathlib.Core.Path.{_∙_, ap}
 use Rattle.input.specs.Line.{reportLine}
 use borrow.Author.Needs.{needs}

@@ -1,3 +1,4 @@
+-- `outcome`: the answer to all bytes so far, taken as a whole input.
 use mathlib.Core.Bool.{true}
 use mathlib.Core.List.{[], _∷_}
 use mathlib.Core.Logic.{inl, inr}

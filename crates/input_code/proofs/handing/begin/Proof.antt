@@ -1,3 +1,4 @@
+-- `begin`: an input before its first byte.
 use mathlib.Core.Path.{refl}
 use borrow.Author.Needs.{needs}
 use Rattle.input.specs.Input.{heldOf, inputIn}

@@ -1,3 +1,4 @@
+-- `complete_lengths`: a piece behind the first bytes of the lengths.
 use mathlib.Core.List.{[], _++_, foldl}
 use mathlib.Core.Path.{_≡_, sym, _∙_, ap, ap₂}
 use Prim.Native.Nat.{_+_, _-_}

@@ -1,3 +1,4 @@
+-- `complete_word`: a piece behind the first bytes of a word.
 use mathlib.Core.List.{[], foldl}
 use mathlib.Core.Path.{_≡_, sym, _∙_, ap, ap₂}
 use Prim.Native.Nat.{_+_, _-_}

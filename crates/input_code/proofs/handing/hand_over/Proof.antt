@@ -1,3 +1,4 @@
+-- `hand_over`: the next piece, of any size.
 use mathlib.Core.List.{[]}
 use mathlib.Core.Path.{_∙_, ap}
 use Prim.Native.Nat.{ℕ}

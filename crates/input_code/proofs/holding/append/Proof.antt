@@ -1,3 +1,4 @@
+-- `append`: some bytes behind the first `from` bytes of those held.
 use mathlib.Core.Path.{_≡_, _∙_}
 use Prim.Native.Nat.{_-_}
 use native.Mathlib.Omega.{arith}

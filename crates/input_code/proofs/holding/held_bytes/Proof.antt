@@ -1,3 +1,4 @@
+-- `held_bytes`: how many bytes are held, where they are to be fewer than `most`.
 use mathlib.Core.Path.{_≡_, sym, _∙_, ap}
 use Prim.Native.Nat.{ℕ}
 use native.Mathlib.Omega.{arith}

@@ -1,3 +1,4 @@
+-- `hold`: after whole words, some bytes of the next.
 use mathlib.Core.Path.{_≡_, _∙_, ap}
 use native.Mathlib.Nat.{zero-add}
 use borrow.Author.Needs.{needs}

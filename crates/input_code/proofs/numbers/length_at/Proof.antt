@@ -1,3 +1,4 @@
+-- `length_at`: the number of eight bytes from byte `at` on.
 use mathlib.Core.Path.{_∙_, ap₂}
 use Prim.Native.Nat.{ℕ, _+_, _*_}
 use Rattle.input_code.proofs.WordLaws.{eight-bytes}

@@ -1,3 +1,4 @@
+-- `lengths_of`: the four lengths at the start of some bytes.
 use mathlib.Core.Path.{_≡_}
 use Prim.Native.Nat.{ℕ}
 use Rattle.batch.specs.declared.Lengths.{Lengths}

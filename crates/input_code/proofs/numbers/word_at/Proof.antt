@@ -1,3 +1,4 @@
+-- `word_at`: the word of four bytes from byte `at` on.
 use mathlib.Core.List.{List, [], _∷_}
 use mathlib.Core.Path.{_≡_, _∙_, ap}
 use Prim.Native.Nat.{ℕ, suc, _+_}

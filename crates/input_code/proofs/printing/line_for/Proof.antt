@@ -1,3 +1,4 @@
+-- `line_for`: the line of a report.
 use mathlib.Core.List.{List, _++_}
 use mathlib.Core.Path.{_∙_, ap}
 use Prim.Native.Nat.{ℕ}

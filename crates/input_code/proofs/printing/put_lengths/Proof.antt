@@ -1,3 +1,4 @@
+-- `put_lengths`: the four lengths.
 use mathlib.Core.List.{[], _∷_}
 use native.Mathlib.Omega.{arith}
 use Rattle.input.specs.Input.{bytesIn}

@@ -1,3 +1,4 @@
+-- `refused`: `refuse`, number and place.
 use mathlib.Core.List.{List, [], _∷_, _++_}
 use mathlib.Core.Path.{_≡_, _∙_, ap}
 use Prim.Native.Nat.{ℕ}

@@ -1,3 +1,4 @@
+-- `convert`: the words of some bytes, to the start of the room.
 use mathlib.Core.Path.{_≡_, refl}
 use Prim.Native.Nat.{_-_, _/_, _≤_}
 use native.Mathlib.Omega.{arith}

@@ -1,3 +1,4 @@
+-- `from_word`: a piece that begins with a word.
 use mathlib.Core.Path.{sym, _∙_}
 use Rattle.parts.specs.States.{walkIn}
 use Rattle.input_code.proofs.WordLaws.{few-held}

@@ -1,3 +1,4 @@
+-- `hand_chunk`: the words of some bytes, handed over.
 use mathlib.Core.List.{foldl}
 use mathlib.Core.Path.{sym, _∙_, ap}
 use Prim.Native.Nat.{_/_}

@@ -1,3 +1,4 @@
+-- `hand_words`: the whole words of a piece handed over, through the room.
 use mathlib.Core.List.{[], foldl}
 use mathlib.Core.Path.{_≡_, refl, sym, _∙_, ap}
 use Prim.Native.Nat.{_+_, _*_, _-_, _≤_}

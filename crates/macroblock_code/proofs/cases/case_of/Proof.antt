@@ -1,3 +1,4 @@
+-- `case_of`: the case of a kind and vector words.
 use borrow.Author.Tests.{ne-eqb}
 use Rattle.macroblock.specs.Cases.{caseOf}
 use borrow.Author.Needs.{needs}

@@ -1,3 +1,4 @@
+-- `inter_motion`: the kind and the vector words of a prediction.
 use mathlib.Core.Path.{sym, ap, ap₂, _∙_}
 use Prim.Native.Nat.{ℕ}
 use Rattle.macroblock.specs.declared.Case.the-variants.{Inter}

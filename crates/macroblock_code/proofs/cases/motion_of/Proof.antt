@@ -1,3 +1,4 @@
+-- `motion_of`: the kind and the vector words of a case.
 use mathlib.Core.Path.{sym, ap, _∙_}
 use Rattle.macroblock.specs.Cases.{motionOf}
 use borrow.Author.Needs.{needs}

@@ -1,3 +1,4 @@
+-- `assembled`: the macroblock of words 1 to 4 and a case.
 use Rattle.macroblock.proofs.Congruence.{same-macroblock}
 use mathlib.Core.Path.{refl}
 use borrow.Author.Needs.{needs}

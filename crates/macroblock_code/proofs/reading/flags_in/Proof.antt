@@ -1,3 +1,4 @@
+-- `flags_in`: the six flags of word 4.
 use Rattle.macroblock.proofs.Congruence.{same-flags}
 use borrow.Author.Needs.{needs}
 use Rattle.macroblock_code.proofs.reading.flags_in.Statement.{statement}

@@ -1,3 +1,4 @@
+-- `kind_in`: the kind that word 1 gives, a number that is no kind among them.
 use borrow.Author.Needs.{needs}
 use Rattle.macroblock_code.proofs.reading.kind_in.Statement.{statement}
 use Rattle.macroblock_code.proofs.reading.kind_in.Tie as tie

@@ -1,3 +1,4 @@
+-- `macroblock_of`: the macroblock of a command's words, legal or not.
 use Rattle.macroblock.proofs.Congruence.{same-assembled}
 use Rattle.macroblock.specs.Cases.{caseOf}
 use mathlib.Core.Path.{ap, _∙_}

@@ -1,3 +1,4 @@
+-- `motion_in`: the kind and the words that hold the vectors.
 use borrow.Author.Needs.{needs}
 use Rattle.macroblock_code.proofs.reading.motion_in.Statement.{statement}
 use Rattle.macroblock_code.proofs.reading.motion_in.Tie as tie

@@ -1,3 +1,4 @@
+-- `copies_fault`: whether words 5 to 8 are the vectors and copies that their kind asks for.
 use Rattle.macroblock.proofs.Congruence.{same-rules, copied-by}
 use Rattle.macroblock.specs.Cases.{vectorWords}
 use Rattle.answers.specs.Answers.{judged}

@@ -1,3 +1,4 @@
+-- `fault_of`: the first rule that a MACROBLOCK command breaks by itself, with its word as the place.
 use mathlib.Core.Path.{_≡_, sym, ap, ap₂, _∙_}
 use Rattle.answers.specs.Answers.{earlier, judged}
 use denote.Ref.{now}

@@ -1,3 +1,4 @@
+-- `field_fault`: words 1, 3 and 4, from whether each is as it should be.
 use mathlib.Core.Path.{sym, _∙_}
 use mathlib.Core.Bool.{_&&_}
 use borrow.Author.Tests.{not-true, not-false}

@@ -1,3 +1,4 @@
+-- `kept_by`: which rules of the macroblock itself hold.
 use mathlib.Core.Path.{ap}
 use mathlib.Core.Bool.{Bool}
 use Rattle.macroblock.specs.Rules.{keptIf, keptBy}

@@ -1,3 +1,4 @@
+-- `type_permitted`: whether the type of word 1 is one of the kind that the intra bit says.
 use borrow.Author.Needs.{needs}
 use Rattle.macroblock_code.proofs.rules.type_permitted.Statement.{statement}
 use Rattle.macroblock_code.proofs.rules.type_permitted.Tie as tie

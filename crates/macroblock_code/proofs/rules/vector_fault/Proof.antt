@@ -1,3 +1,4 @@
+-- `vector_fault`: words 5 to 8, from whether each is as it should be.
 use mathlib.Core.Path.{sym, _∙_}
 use borrow.Author.Tests.{not-true, not-false}
 use Rattle.answers.proofs.Judging.{in-order}

@@ -1,3 +1,4 @@
+-- `words_fault`: whether words 1, 3 and 4 have what they may have.
 use mathlib.Core.Path.{ap, _∙_}
 use Rattle.lists.proofs.Booleans.{same-both}
 use Rattle.answers.specs.Answers.{judged}

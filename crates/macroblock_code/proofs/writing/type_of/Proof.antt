@@ -1,3 +1,4 @@
+-- `type_of`: the type in word 1.
 use borrow.Author.Tests.{ne-eqb, eq-eqb}
 use Rattle.macroblock_code.proofs.writing.type_of.Statement.{statement}
 use Rattle.macroblock_code.proofs.writing.type_of.Tie as tie

@@ -1,3 +1,4 @@
+-- `vector_words`: words 5 to 8.
 use borrow.Author.Tests.{ne-eqb}
 use Rattle.macroblock.specs.Cases.{vectorWords}
 use Rattle.macroblock_code.proofs.writing.vector_words.Statement.{statement}

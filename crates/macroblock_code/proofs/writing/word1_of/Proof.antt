@@ -1,3 +1,4 @@
+-- `word1_of`: word 1 from its fields, from the highest down.
 use Rattle.fields.proofs.Packing.{same-put}
 use mathlib.Core.Path.{refl, ap, _∙_}
 use Rattle.fields.specs.Word.{withBits}

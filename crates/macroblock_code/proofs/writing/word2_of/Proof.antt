@@ -1,3 +1,4 @@
+-- `word2_of`: word 2 from row and column.
 use Rattle.fields.proofs.Packing.{same-put}
 use mathlib.Core.Path.{refl, _∙_}
 use borrow.Author.Needs.{needs}

@@ -1,3 +1,4 @@
+-- `word3_of`: word 3 from the sizes and the pattern.
 use Rattle.fields.proofs.Packing.{same-put}
 use mathlib.Core.Path.{refl, _∙_}
 use borrow.Author.Needs.{needs}

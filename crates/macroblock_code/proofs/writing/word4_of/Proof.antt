@@ -1,3 +1,4 @@
+-- `word4_of`: word 4 from the flags and the quantiser.
 use Rattle.fields.proofs.Packing.{same-put}
 use mathlib.Core.Path.{_∙_}
 use borrow.Author.Needs.{needs}

@@ -1,3 +1,4 @@
+-- `words_of`: the nine words of a macroblock's command.
 use mathlib.Core.Path.{_≡_, sym, ap, subst, _∙_}
 use mathlib.Core.List.{List}
 use Prim.Native.Nat.{ℕ}

@@ -1,3 +1,4 @@
+-- `buffer_in`: the words of a buffer, each cut to 32 bits; the loop has read those before it.
 use mathlib.Core.List.{[]}
 use mathlib.Core.Path.{refl, _∙_, sym}
 use Prim.Native.Nat.{_+_, _-_}

@@ -1,3 +1,4 @@
+-- `progress_in`: the progress that the first words of memory stand for.
 use borrow.Author.Needs.{needs}
 use Rattle.memory_code.proofs.reading.progress_in.Statement.{statement}
 use Rattle.memory_code.proofs.reading.progress_in.Tie as tie

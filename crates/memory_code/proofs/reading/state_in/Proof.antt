@@ -1,3 +1,4 @@
+-- `state_in`: the whole state.
 use borrow.Author.Needs.{needs}
 use Rattle.memory.specs.Memory.{stateIn}
 use Rattle.memory_code.proofs.reading.state_in.Statement.{statement}

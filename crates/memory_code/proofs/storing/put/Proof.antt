@@ -1,3 +1,4 @@
+-- `put`: words behind the first `at` words of the memory.
 use mathlib.Core.Path.{refl}
 use Prim.Native.Nat.{_-_}
 use borrow.Author.Needs.{needs}

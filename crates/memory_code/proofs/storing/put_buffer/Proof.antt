@@ -1,3 +1,4 @@
+-- `put_buffer`: the words of the buffer behind those of the fields.
 use mathlib.Core.Path.{refl, sym, _∙_}
 use Prim.Native.Nat.{_+_, _-_}
 use borrow.Author.Needs.{needs}

@@ -1,3 +1,4 @@
+-- `put_progress`: the words of the progress are the first.
 use mathlib.Core.List.{[]}
 use mathlib.Core.Path.{refl}
 use borrow.Author.Needs.{needs}

@@ -1,3 +1,4 @@
+-- `state_words`: the words of a state.
 use mir.Syntax.{w32}
 use mathlib.Core.List.{List, _++_}
 use mathlib.Core.Path.{_≡_, ap, _∙_}

@@ -1,3 +1,4 @@
+-- `answer`: the answer to all words so far, taken as a whole batch.
 use mathlib.Core.Path.{ap, _∙_}
 use Prim.Native.Nat.{ℕ, _+_}
 use borrow.Author.Needs.{needs}

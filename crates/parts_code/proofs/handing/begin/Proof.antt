@@ -1,3 +1,4 @@
+-- `begin`: a check with four buffers of these lengths, before its first word.
 use mathlib.Core.List.{[]}
 use mathlib.Core.Path.{refl, ap, _∙_}
 use borrow.Author.Needs.{needs}

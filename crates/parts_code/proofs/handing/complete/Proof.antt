@@ -1,3 +1,4 @@
+-- `complete`: a part behind the words that are held.
 use mathlib.Core.List.{[], _++_, foldl}
 use mathlib.Core.Path.{_≡_, sym, ap, _∙_}
 use Prim.Native.Nat.{ℕ, _+_, _-_, _≤_, _<_}

@@ -1,3 +1,4 @@
+-- `halted`: the state of a check that has refused.
 use mathlib.Core.Path.{refl}
 use Rattle.parts.specs.States.{walkIn}
 use Rattle.parts_code.proofs.handing.halted.Statement.{statement}

@@ -1,3 +1,4 @@
+-- `walk_on`: on from the beginning of the command in progress, whose words so far are the first of these words.
 use mathlib.Core.Path.{_≡_, refl, sym, ap, _∙_}
 use Prim.Native.Nat.{_-_, _≤_}
 use native.Mathlib.Nat.{zero-add}

@@ -1,3 +1,4 @@
+-- `append`: some words behind the first `from` words of a buffer.
 use mathlib.Core.List.{List, _++_}
 use mathlib.Core.Path.{_≡_, _∙_, ap}
 use Prim.Native.Nat.{ℕ, _-_, _≤_}

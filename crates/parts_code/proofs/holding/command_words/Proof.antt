@@ -1,3 +1,4 @@
+-- `command_words`: the count of words of the command that a word begins, 0 for none.
 use mathlib.Core.Path.{sym, ap, _∙_}
 use borrow.Author.Needs.{needs}
 use Rattle.headers.specs.Headers.{wordsIn}

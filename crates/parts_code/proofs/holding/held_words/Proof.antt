@@ -1,3 +1,4 @@
+-- `held_words`: how many words the state holds of the command in progress.
 use mathlib.Core.Path.{_≡_, sym, ap, _∙_}
 use Prim.Native.Nat.{ℕ, _≤_, _<_}
 use native.Mathlib.Omega.{arith}

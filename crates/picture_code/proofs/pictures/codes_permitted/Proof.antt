@@ -1,3 +1,4 @@
+-- `codes_permitted`: whether the type is one of the three, and the f codes are the type's.
 use borrow.Author.Needs.{needs}
 use Rattle.picture_code.proofs.pictures.codes_permitted.Statement.{statement}
 use Rattle.picture_code.proofs.pictures.codes_permitted.Tie as tie

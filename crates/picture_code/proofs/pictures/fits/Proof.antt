@@ -1,3 +1,4 @@
+-- `fits`: whether a number of macroblocks is the least that covers the samples.
 use Rattle.picture_code.proofs.Congruence.{none-fit}
 use borrow.Author.Needs.{needs}
 use Rattle.picture_code.proofs.pictures.fits.Statement.{statement}

@@ -1,3 +1,4 @@
+-- `in_use`: whether an f code, and both of a reference, are those of one that is used.
 use borrow.Author.Needs.{needs}
 use Rattle.lists.proofs.Booleans.{same-both}
 use Rattle.picture_code.proofs.pictures.in_use.Statement.{statement}

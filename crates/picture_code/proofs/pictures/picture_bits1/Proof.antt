@@ -1,3 +1,4 @@
+-- `picture_bits1`: whether the bits of word 1 that have one value have it.
 use borrow.Author.Needs.{needs}
 use Rattle.lists.proofs.Booleans.{same-both}
 use Rattle.picture_code.proofs.pictures.picture_bits1.Statement.{statement}

@@ -1,3 +1,4 @@
+-- `picture_fault`: the first rule that a PICTURE command breaks on its surface, with its word as the place.
 use mathlib.Core.Path.{ap, _∙_}
 use Rattle.answers.specs.Answers.{judged}
 use Rattle.picture.specs.Pictures.{pictureBits1, codesPermitted, sizePermitted, pictureRules}

@@ -1,3 +1,4 @@
+-- `picture_of`: what a command's words say, legal or not.
 use mathlib.Core.Path.{_∙_}
 use Rattle.picture.specs.Pictures.{pictureOf}
 use Rattle.picture_code.proofs.Congruence.{next, same-picture, same-picture-words}

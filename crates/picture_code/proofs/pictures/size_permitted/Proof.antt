@@ -1,3 +1,4 @@
+-- `size_permitted`: whether the picture has the surface's size, and the surface has room for its macroblocks.
 use borrow.Author.Needs.{needs}
 use Rattle.picture_code.proofs.pictures.size_permitted.Statement.{statement}
 use Rattle.picture_code.proofs.pictures.size_permitted.Tie as tie

@@ -1,3 +1,4 @@
+-- `surface_bits3`: whether the bits of word 3 that have one value have it.
 use borrow.Author.Needs.{needs}
 use Rattle.lists.proofs.Booleans.{same-both}
 use Rattle.picture_code.proofs.surfaces.surface_bits3.Statement.{statement}

@@ -1,3 +1,4 @@
+-- `surface_broken`: the first rule that is broken, from whether each is kept.
 use mathlib.Core.Path.{sym, _∙_}
 use borrow.Author.Tests.{not-true, not-false}
 use Rattle.answers.proofs.Judging.{in-order}

@@ -1,3 +1,4 @@
+-- `surface_fault`: the first rule that a SURFACE command breaks, with its word as the place.
 use mathlib.Core.Path.{ap, _∙_}
 use Rattle.answers.specs.Answers.{judged}
 use Rattle.picture.specs.Surfaces.{surfaceBits1, surfaceBits2, surfaceBits3, surfaceBits4, pitchPermitted, surfaceRules}

@@ -1,3 +1,4 @@
+-- `surface_of`: what a command's words say, legal or not.
 use mathlib.Core.Path.{_∙_}
 use Rattle.picture.specs.Surfaces.{surfaceOf}
 use Rattle.picture_code.proofs.Congruence.{next, same-frame, same-surface-words}

@@ -1,3 +1,4 @@
+-- `judge_macroblock`: what a MACROBLOCK command comes to.
 use mathlib.Core.Path.{_≡_, sym, _∙_, ap}
 use denote.Ref.{now}
 use Rattle.answers.specs.Answers.{judged}

@@ -1,3 +1,4 @@
+-- `flags_agree`: whether the slice and group flags agree with what is open.
 use borrow.Author.Needs.{needs}
 use Rattle.placement_code.proofs.placing.flags_agree.Statement.{statement}
 use Rattle.placement_code.proofs.placing.flags_agree.Tie as tie

@@ -1,3 +1,4 @@
+-- `placed_by`: which rules hold of a macroblock with these blocks.
 use Rattle.placement.specs.Placing.{placedBy}
 use borrow.Author.Needs.{needs}
 use Rattle.placement_code.proofs.placing.placed_by.Statement.{statement}

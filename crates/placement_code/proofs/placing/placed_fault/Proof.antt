@@ -1,3 +1,4 @@
+-- `placed_fault`: the first of these rules that does not hold, with its word.
 use mathlib.Core.Path.{sym, _∙_}
 use borrow.Author.Tests.{not-true, not-false}
 use Rattle.answers.proofs.Judging.{in-order}

@@ -1,3 +1,4 @@
+-- `repeats`: whether the macroblock before is inter with the same type and words.
 use borrow.Author.Needs.{needs}
 use Rattle.placement_code.proofs.placing.repeats.Statement.{statement}
 use Rattle.placement_code.proofs.placing.repeats.Tie as tie

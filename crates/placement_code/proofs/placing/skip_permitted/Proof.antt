@@ -1,3 +1,4 @@
+-- `skip_permitted`: the skip rules of P and of B.
 use borrow.Author.Needs.{needs}
 use Rattle.placement_code.proofs.placing.skip_permitted.Statement.{statement}
 use Rattle.placement_code.proofs.placing.skip_permitted.Tie as tie

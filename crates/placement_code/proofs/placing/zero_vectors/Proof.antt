@@ -1,3 +1,4 @@
+-- `zero_vectors`: whether words 5 to 8 are all zero.
 use borrow.Author.Needs.{needs}
 use Rattle.placement_code.proofs.placing.zero_vectors.Statement.{statement}
 use Rattle.placement_code.proofs.placing.zero_vectors.Tie as tie

@@ -1,3 +1,4 @@
+-- `extents_after`: what is touched of each buffer after a macroblock.
 use Rattle.placement.specs.Progressing.{extentsAfter}
 use borrow.Author.Needs.{needs}
 use Rattle.placement_code.proofs.progressing.extents_after.Statement.{statement}

@@ -1,3 +1,4 @@
+-- `position_after`: the next column, or the first of the next row.
 use Rattle.placement.specs.Progressing.{positionAfter}
 use borrow.Author.Tests.{lt-ltb, le-ltb}
 use borrow.Author.Needs.{needs}

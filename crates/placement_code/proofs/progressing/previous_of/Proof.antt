@@ -1,3 +1,4 @@
+-- `previous_of`: what a rule reads of the macroblock before.
 use borrow.Author.Needs.{needs}
 use Rattle.placement_code.proofs.progressing.previous_of.Statement.{statement}
 use Rattle.placement_code.proofs.progressing.previous_of.Tie as tie

@@ -1,3 +1,4 @@
+-- `progress_after`: the progress after a macroblock with these blocks.
 use Rattle.placement.specs.Progressing.{progressAfter}
 use borrow.Author.Needs.{needs}
 use Rattle.placement_code.proofs.progressing.progress_after.Statement.{statement}

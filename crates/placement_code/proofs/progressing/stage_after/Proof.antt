@@ -1,3 +1,4 @@
+-- `stage_after`: what is open after the flags of a macroblock.
 use Rattle.placement.specs.Progressing.{stageAfter}
 use mathlib.Core.Path.{refl}
 use Rattle.placement_code.proofs.progressing.stage_after.Statement.{statement}

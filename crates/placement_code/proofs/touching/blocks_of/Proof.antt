@@ -1,3 +1,4 @@
+-- `blocks_of`: what the next macroblock touches if it is coded like this.
 use Rattle.placement.specs.Blocks.{blocksOf}
 use borrow.Author.Needs.{needs}
 use Rattle.placement_code.proofs.touching.blocks_of.Statement.{statement}

@@ -1,3 +1,4 @@
+-- `own_extent`: a macroblock's own samples.
 use mathlib.Core.Path.{sym, ap, _∙_}
 use Rattle.placement.specs.Blocks.{extentIn}
 use borrow.Author.Needs.{needs}

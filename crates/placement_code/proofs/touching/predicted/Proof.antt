@@ -1,3 +1,4 @@
+-- `predicted`: the block that a macroblock is predicted from in one reference.
 use mathlib.Core.Bool.{true}
 use Rattle.prediction.specs.declared.Extent.{Extent}
 use mathlib.Core.Path.{sym, _∙_, ap, ap₂}

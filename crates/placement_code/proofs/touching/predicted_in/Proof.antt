@@ -1,3 +1,4 @@
+-- `predicted_in`: the block that a vector predicts from a reference.
 use mathlib.Core.Bool.{Bool, false}
 use Rattle.prediction.specs.Extents.{emptyExtent}
 use Rattle.prediction.specs.declared.Extent.{Extent}

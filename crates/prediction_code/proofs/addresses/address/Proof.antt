@@ -1,3 +1,4 @@
+-- `address`: the byte at a column and a row of a picture buffer in Y tiles.
 use mathlib.Core.Path.{sym}
 use Prim.Native.Nat.{_*_, _/_, _≤_}
 use native.Mathlib.Omega.{arith}

@@ -1,3 +1,4 @@
+-- `block_at`: the block that a vector displaces from a macroblock's position.
 use mathlib.Core.Path.{_≡_, sym, ap, ap₂, _∙_}
 use mathlib.Core.Bool.{Bool, cond, _&&_}
 use borrow.Author.Tests.{not-true, not-false}

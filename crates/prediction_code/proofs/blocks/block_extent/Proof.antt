@@ -1,3 +1,4 @@
+-- `block_extent`: what the block touches that the vector (x - 32768, y - 32768) displaces, where it does not start before the picture.
 use mathlib.Core.Path.{ap, ap₂, _∙_}
 use Prim.Native.Nat.{ℕ, _+_, _*_}
 use Rattle.prediction.specs.Addresses.{address}

@@ -1,3 +1,4 @@
+-- `empty`: no byte.
 use mathlib.Core.Path.{refl}
 use Rattle.prediction.specs.Extents.{emptyExtent}
 use Rattle.prediction_code.proofs.extents.empty.Statement.{statement}

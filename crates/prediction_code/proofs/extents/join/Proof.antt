@@ -1,3 +1,4 @@
+-- `join`: what either touches.
 use mathlib.Core.Path.{_≡_, ap}
 use Prim.Native.Nat.{max}
 use native.Mathlib.Omega.{arith}

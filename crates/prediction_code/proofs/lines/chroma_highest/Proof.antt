@@ -1,3 +1,4 @@
+-- `chroma_highest`: whether the last Cr byte of a block is its highest byte, in every picture of so many rows of macroblocks.
 use mathlib.Core.Path.{refl}
 use borrow.Author.Needs.{needs}
 use Rattle.prediction.specs.Lines.{chromaHighest}

@@ -1,3 +1,4 @@
+-- `in_line`: whether the component b - 32768 keeps the line.
 use native.Mathlib.Omega.{arith}
 use Rattle.prediction.proofs.LineCode.{far, near}
 use borrow.Author.Needs.{needs}

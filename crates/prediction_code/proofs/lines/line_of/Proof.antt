@@ -1,3 +1,4 @@
+-- `line_of`: the line of n macroblocks under an f code.
 use mathlib.Core.Path.{_≡_}
 use Prim.Native.Nat.{_*_, _%_, _^_}
 use native.Mathlib.Omega.{arith}

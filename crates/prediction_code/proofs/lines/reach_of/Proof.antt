@@ -1,3 +1,4 @@
+-- `reach_of`: what the block touches that the vector of a word displaces, up to its last Cr sample.
 use mathlib.Core.Path.{_≡_, sym, ap, ap₂, _∙_}
 use Prim.Native.Nat.{ℕ, _+_, _*_}
 use native.Mathlib.Omega.{arith}

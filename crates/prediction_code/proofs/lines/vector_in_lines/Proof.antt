@@ -1,3 +1,4 @@
+-- `vector_in_lines`: whether the vector of a word keeps the lines of its column and its row.
 use mathlib.Core.Path.{_≡_, sym, ap, _∙_}
 use mathlib.Core.Bool.{Bool, _&&_}
 use borrow.Author.Tests.{not-true, not-false}

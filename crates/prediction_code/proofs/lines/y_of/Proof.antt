@@ -1,3 +1,4 @@
+-- `y_of`: the y of a word's vector, plus 32768.
 use mathlib.Core.Path.{ap, _∙_}
 use Rattle.prediction.specs.declared.Vector.{Vector}
 use Rattle.prediction.proofs.TwosComplement.{read-back}

@@ -1,3 +1,4 @@
+-- `in_range`: whether the component b - 32768 lies in the range of a code.
 use mathlib.Core.Path.{_≡_, sym}
 use Prim.Native.Nat.{_*_, _%_, _^_}
 use native.Mathlib.Omega.{arith}

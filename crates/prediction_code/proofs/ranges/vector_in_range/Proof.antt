@@ -1,3 +1,4 @@
+-- `vector_in_range`: whether both components of a vector lie in the ranges of their codes.
 use mathlib.Core.Path.{_≡_, sym, ap, _∙_}
 use mathlib.Core.Bool.{Bool, _&&_}
 use borrow.Author.Tests.{not-true, not-false}

@@ -1,3 +1,4 @@
+-- `halved`: a component halved towards zero.
 use mathlib.Core.Path.{sym}
 use native.Mathlib.Omega.{arith}
 use Rattle.prediction.proofs.Components.{half-below, half-above}

@@ -1,3 +1,4 @@
+-- `inside`: whether the block's samples lie in the n blocks of size samples that the picture has.
 use mathlib.Core.Path.{sym}
 use mathlib.Core.Bool.{true, false}
 use Prim.Native.Nat.{_+_, _*_, _/_}

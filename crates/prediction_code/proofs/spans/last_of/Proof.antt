@@ -1,3 +1,4 @@
+-- `last_of`: the last sample of a block that does not start before the picture.
 use native.Mathlib.Omega.{arith}
 use Rattle.prediction.proofs.Integers.{samples-le}
 use borrow.Author.Needs.{needs}

@@ -1,3 +1,4 @@
+-- `signed`: the number of sixteen bits in two's complement.
 use mathlib.Core.Path.{_≡_, ap, _∙_}
 use Prim.Native.Nat.{_-_}
 use native.Mathlib.Omega.{arith}

@@ -1,3 +1,4 @@
+-- `unsigned`: the sixteen bits of a number.
 use mathlib.Core.Path.{_≡_, ap, _∙_, sym, subst}
 use Prim.Native.Nat.{_-_}
 use native.Mathlib.Omega.{arith}

@@ -1,3 +1,4 @@
+-- `vector_of`: the vector of a word.
 use mathlib.Core.Path.{ap, ap₂, _∙_}
 use Rattle.fields.specs.declared.Halves.{Halves}
 use Rattle.prediction.specs.Vectors.{signed16, vectorOf}

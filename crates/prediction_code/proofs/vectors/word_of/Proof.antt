@@ -1,3 +1,4 @@
+-- `word_of`: the word of a vector.
 use mathlib.Core.Path.{ap, ap₂, _∙_}
 use Rattle.fields.specs.Word.{wordOfHalves}
 use Rattle.fields.proofs.Fields.{halves}

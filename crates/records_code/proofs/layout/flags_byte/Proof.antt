@@ -1,3 +1,4 @@
+-- `flags_byte`: the byte that holds the flags.
 use mathlib.Core.Path.{_≡_, sym, ap, subst, _∙_}
 use mir.Syntax.{w8}
 use mir.Val.{Fits}

@@ -1,3 +1,4 @@
+-- `flags_of`: the flags of the byte that holds them.
 use Rattle.macroblock.proofs.Congruence.{same-flags}
 use borrow.Author.Needs.{needs}
 use Rattle.records_code.proofs.layout.flags_of.Statement.{statement}

@@ -1,3 +1,4 @@
+-- `macroblock_in`: the macroblock of a record, legal or not.
 use Rattle.macroblock.proofs.Congruence.{same-macroblock}
 use Rattle.macroblock.specs.Cases.{caseOf}
 use Rattle.fields.specs.Word.{isSet}

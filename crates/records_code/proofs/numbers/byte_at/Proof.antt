@@ -1,3 +1,4 @@
+-- `byte_at`: a byte, 0 where there is none.
 use denote.Ref.{now}
 use lib.ListN.{List·getD-eq-default}
 use mathlib.Core.Path.{sym}

@@ -1,3 +1,4 @@
+-- `write_record`: writes a macroblock's record into the first 24 bytes of room.
 use mathlib.Core.Path.{refl}
 use denote.Ref.{now}
 use Rattle.answers.proofs.LendingLaws.{copied-all, lacks-room, writes}

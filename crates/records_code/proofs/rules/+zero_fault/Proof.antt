@@ -1,3 +1,4 @@
+-- `zero_fault`: the first of some bytes that is not zero.
 use mathlib.Core.Path.{sym, _∙_}
 use native.Mathlib.Omega.{arith}
 use denote.Ref.{now}

@@ -1,3 +1,4 @@
+-- `first_of`: bytes 6 to 12, from whether each is as it should be.
 use mathlib.Core.Path.{sym, _∙_}
 use mathlib.Core.List.{List, [], _∷_}
 use borrow.Author.Tests.{not-true, not-false}

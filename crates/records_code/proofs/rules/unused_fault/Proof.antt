@@ -1,3 +1,4 @@
+-- `unused_fault`: the first byte that is not zero, of bytes that are not used.
 use mathlib.Core.Path.{sym, _∙_}
 use borrow.Author.Needs.{needs}
 use Rattle.records_code.proofs.rules.unused_fault.Statement.{statement}

@@ -1,3 +1,4 @@
+-- `after_row`: the progress after commands of a row, of which the last is this one, at this column.
 use Rattle.rows.specs.Rows.{afterRow}
 use borrow.Author.Needs.{needs}
 use Rattle.rows_code.proofs.after.after_row.Statement.{statement}

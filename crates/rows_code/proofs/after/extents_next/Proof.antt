@@ -1,3 +1,4 @@
+-- `extents_next`: what is touched after the commands of a row.
 use borrow.Author.Needs.{needs}
 use Rattle.rows_code.proofs.after.extents_next.Statement.{statement}
 use Rattle.rows_code.proofs.after.extents_next.Tie as tie

@@ -1,3 +1,4 @@
+-- `kind_in`: the kind of the last command of a row.
 use borrow.Author.Needs.{needs}
 use Rattle.rows_code.proofs.after.kind_in.Statement.{statement}
 use Rattle.rows_code.proofs.after.kind_in.Tie as tie

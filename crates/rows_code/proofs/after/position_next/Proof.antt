@@ -1,3 +1,4 @@
+-- `position_next`: the position after the last command of a row.
 use borrow.Author.Tests.{lt-ltb, le-ltb}
 use Rattle.placement.specs.Progressing.{positionAfter}
 use borrow.Author.Needs.{needs}

@@ -1,3 +1,4 @@
+-- `previous_in`: what a rule reads of the last command of a row.
 use borrow.Author.Needs.{needs}
 use Rattle.rows_code.proofs.after.previous_in.Statement.{statement}
 use Rattle.rows_code.proofs.after.previous_in.Tie as tie

@@ -1,3 +1,4 @@
+-- `stage_next`: what is open after the last command of a row.
 use Rattle.placement.specs.Progressing.{stageAfter}
 use borrow.Author.Needs.{needs}
 use Rattle.rows_code.proofs.after.stage_next.Statement.{statement}

@@ -1,3 +1,4 @@
+-- `due_bits`: the bound bits of word 4 of a macroblock.
 use Rattle.rows.specs.Words.{dueBits}
 use Rattle.rows_code.proofs.row.due_bits.Statement.{statement}
 use Rattle.rows_code.proofs.row.due_bits.Tie as tie

@@ -1,3 +1,5 @@
+-- `judge_row`: Takes MACROBLOCK commands that stand one behind the other, up to the end of the row or of the group, as far as they
+-- keep their rules.
 use mathlib.Core.Path.{refl, sym, _∙_}
 use borrow.Author.Needs.{needs}
 use Rattle.answers.proofs.Judging.{kept}

@@ -1,3 +1,4 @@
+-- `taken`: what the commands before word `at` come to, of which the last stands before this column.
 use mathlib.Core.Path.{refl}
 use native.Mathlib.Omega.{arith}
 use borrow.Author.Needs.{needs}

@@ -1,3 +1,4 @@
+-- `judge_backward`: a macroblock that is predicted backward only.
 use mathlib.Core.Path.{refl}
 use Rattle.answers.proofs.Judging.{kept}
 use borrow.Author.Needs.{needs}

@@ -1,3 +1,4 @@
+-- `judge_both`: a macroblock that is predicted from both references.
 use mathlib.Core.Path.{refl}
 use Rattle.answers.proofs.Judging.{kept}
 use borrow.Author.Needs.{needs}

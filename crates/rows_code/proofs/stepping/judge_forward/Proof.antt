@@ -1,3 +1,4 @@
+-- `judge_forward`: a macroblock that is predicted forward only.
 use mathlib.Core.Path.{refl}
 use Rattle.answers.proofs.Judging.{kept}
 use borrow.Author.Needs.{needs}

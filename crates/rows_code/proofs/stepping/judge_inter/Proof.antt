@@ -1,3 +1,4 @@
+-- `judge_inter`: an inter macroblock, whose word 1 has this lower half.
 use mathlib.Core.Path.{refl, sym, ap, _∙_}
 use Prim.Native.Nat.{ℕ}
 use Rattle.fields.specs.Word.{withBits}

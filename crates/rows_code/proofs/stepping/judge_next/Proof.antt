@@ -1,3 +1,4 @@
+-- `judge_next`: the command at a column of the progress's row.
 use mathlib.Core.Path.{refl, sym, ap, _∙_}
 use Prim.Native.Nat.{ℕ}
 use Rattle.fields.specs.Word.{withBits}

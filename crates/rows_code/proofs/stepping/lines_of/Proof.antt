@@ -1,3 +1,4 @@
+-- `lines_of`: the lines of a picture.
 use Rattle.rows.specs.Steps.{linesOf}
 use borrow.Author.Needs.{needs}
 use Rattle.rows_code.proofs.stepping.lines_of.Statement.{statement}

@@ -1,3 +1,4 @@
+-- `bound_bits`: word 4 without the bits that a macroblock is free to set.
 use mathlib.Core.Path.{refl, _∙_}
 use Rattle.fields.proofs.Packing.{same-put}
 use Rattle.rows.specs.Words.{boundBits}

@@ -1,3 +1,4 @@
+-- `flags_keep`: whether word 4 is as it has to be, in the last column or not, where its bound bits are due.
 use mathlib.Core.Logic.{inl, inr}
 use borrow.Author.Needs.{needs}
 use Rattle.lists.proofs.Booleans.{no}

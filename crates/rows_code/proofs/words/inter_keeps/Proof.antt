@@ -1,3 +1,4 @@
+-- `inter_keeps`: whether words 1, 3 and 5 to 8 of an inter macroblock are as they have to be, apart from its type and its vectors.
 use mathlib.Core.Logic.{inl, inr}
 use borrow.Author.Needs.{needs}
 use Rattle.lists.proofs.Booleans.{no}

@@ -1,3 +1,4 @@
+-- `intra_keeps`: whether words 3 to 8 of an intra macroblock are as they have to be, word 4 but for the picture's type.
 use mathlib.Core.Logic.{inl, inr}
 use mathlib.Core.Path.{refl}
 use Rattle.lists.proofs.Booleans.{no}

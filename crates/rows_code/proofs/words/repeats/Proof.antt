@@ -1,3 +1,4 @@
+-- `repeats`: whether a macroblock has the type and the vectors of the one before.
 use borrow.Author.Needs.{needs}
 use Rattle.lists.proofs.Booleans.{no}
 use Rattle.rows_code.proofs.words.repeats.Statement.{statement}

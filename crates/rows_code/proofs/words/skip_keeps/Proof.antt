@@ -1,3 +1,4 @@
+-- `skip_keeps`: whether a macroblock of a P or B picture may be skipped.
 use mathlib.Core.Logic.{inl, inr}
 use borrow.Author.Needs.{needs}
 use Rattle.lists.proofs.Booleans.{no}

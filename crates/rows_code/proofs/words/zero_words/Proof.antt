@@ -1,3 +1,4 @@
+-- `zero_words`: whether words 5 to 8 are zero.
 use borrow.Author.Needs.{needs}
 use Rattle.lists.proofs.Booleans.{no}
 use Rattle.rows_code.proofs.words.zero_words.Statement.{statement}

@@ -1,3 +1,4 @@
+-- `conclude`: the progress after a command, if it keeps its rules.
 use mathlib.Core.Path.{sym, ap}
 use Rattle.answers.specs.declared.Answer.{Answer}
 use Rattle.progress.specs.Progress.{concluded}

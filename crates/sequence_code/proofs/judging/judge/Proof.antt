@@ -1,3 +1,4 @@
+-- `judge`: what a whole command comes to.
 use mathlib.Core.Path.{_≡_, sym, _∙_, ap}
 use mathlib.Core.List.{List}
 use Prim.Native.Nat.{ℕ}

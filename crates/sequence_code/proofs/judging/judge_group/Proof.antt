@@ -1,3 +1,4 @@
+-- `judge_group`: a SLICEGROUP judged, and the progress after it.
 use mathlib.Core.Path.{_∙_, ap₂}
 use Rattle.progress.specs.Progress.{concluded}
 use Rattle.sequence.specs.Judging.{judge, rulesOf, nextOf}

@@ -1,3 +1,4 @@
+-- `sequence_fault`: rule 3 of a command.
 use borrow.Author.Tests.{not-true, not-false}
 use Rattle.sequence_code.proofs.judging.sequence_fault.Statement.{statement}
 use Rattle.sequence_code.proofs.judging.sequence_fault.Tie as tie

@@ -1,3 +1,4 @@
+-- `end_next`: what has come after END.
 use mathlib.Core.Path.{refl}
 use Rattle.sequence.specs.Sequence.{endNext}
 use Rattle.sequence_code.proofs.stages.end_next.Statement.{statement}

@@ -1,3 +1,4 @@
+-- `group_next`: what is open after a SLICEGROUP.
 use mathlib.Core.Path.{refl}
 use Rattle.sequence.specs.Sequence.{groupNext}
 use Rattle.sequence_code.proofs.stages.group_next.Statement.{statement}

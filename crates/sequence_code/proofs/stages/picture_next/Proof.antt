@@ -1,3 +1,4 @@
+-- `picture_next`: what has come after a PICTURE.
 use mathlib.Core.Path.{refl}
 use Rattle.sequence.specs.Sequence.{pictureNext}
 use Rattle.sequence_code.proofs.stages.picture_next.Statement.{statement}

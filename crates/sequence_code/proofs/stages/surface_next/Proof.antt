@@ -1,3 +1,4 @@
+-- `surface_next`: what has come after a SURFACE.
 use mathlib.Core.Path.{refl}
 use Rattle.sequence.specs.Sequence.{surfaceNext}
 use Rattle.sequence_code.proofs.stages.surface_next.Statement.{statement}
