@@ -99,6 +99,8 @@ def check_contracts():
             seen.add((crate, edit))
             if 'why' not in fields or not guarded or not changed or set(guarded) - names:
                 faults.append(f'{where} says not which public function it guards, or not why')
+            if not has_definitions(crate) and any(re.search(r'\b(ensures|requires)\b', old) for _, old in changed):
+                faults.append(f'{where} changes a contract, by which other functions could be refused')
             if has_definitions(crate) != ('law' in fields):
                 faults.append(f'{where}: a wrong definition names the law that refuses it, and a wrong program none')
     for name in sorted(names):
