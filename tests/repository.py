@@ -119,7 +119,10 @@ def functions(crate):
         for i, line in enumerate(lines):
             if m := re.match(r'(?:pub(?:\(crate\))? )?(?:extern "C" )?fn (\w+)', line):
                 end = lines.index('}', i)
-                yield str(file.relative_to(crate)), module, m[1], '\n'.join(lines[i:end + 1]), i + 1, end + 1
+                first = i
+                while lines[first - 1].startswith('#['):
+                    first -= 1
+                yield str(file.relative_to(crate)), module, m[1], '\n'.join(lines[i:end + 1]), first + 1, end + 1
 
 
 # An edit that only makes a proof file unfit for the code shows nothing.
