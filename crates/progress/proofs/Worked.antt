@@ -14,6 +14,6 @@ nothing-open : fresh .stage .«in_group» ∷ fresh .stage .«in_slice» ∷ fre
 unfolding fresh
 nothing-open = refl
 
-nothing-touched : map (λ b. extentOf b (fresh .extents) .end) buffers ≡ 0 ∷ 0 ∷ 0 ∷ 0 ∷ []
-unfolding fresh emptyExtent
+nothing-touched : map (λ b. extentOf b (fresh .extents)) buffers ≡ emptyExtent ∷ emptyExtent ∷ emptyExtent ∷ emptyExtent ∷ []
+unfolding fresh
 nothing-touched = refl
