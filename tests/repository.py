@@ -136,15 +136,20 @@ def errors_in(log):
 
 
 def refused_by_law(found, fields):
+    """The law itself is refused at a fact, and not only because another one was."""
     where, law = fields['law'].split()
-    return any(f == where and f'`{law}`' in m for f, _, m in found)
+    return any(f == where and m.startswith(f'error: `{law}`') and not any(word in m for word in UNFIT) for f, _, m in found)
+
+
+def changed_functions(crate, fields, changed):
+    """The functions that a wrong program changes; where it changes a constant, those that it guards."""
+    own = [x for x in functions(crate) if any(x[0] == f and old in x[3] for f, old in changed)]
+    return own or [x for x in functions(crate) if x[2] in fields['guards'].split()]
 
 
 def refused_in_function(crate, found, fields, changed, log):
     """The first error in the proof of a function that is changed is a fact, and the function is not proved."""
-    own = [x for x in functions(crate) if any(x[0] == f and old in x[3] for f, old in changed)]
-    own = own or [x for x in functions(crate) if x[2] in fields['guards'].split()]
-    for file, module, name, _, first, last in own:
+    for file, module, name, _, first, last in changed_functions(crate, fields, changed):
         proof = 'proofs/' + '/'.join(module + [name, 'Proof.antt'])
         own_errors = [m for f, n, m in found if f == proof or (f == file and first <= n <= last)]
         verdict = re.search(rf'^fn {"::".join([crate.name] + module + [name])}: (.*)$', log.read_text(), re.M)
@@ -155,6 +160,7 @@ def refused_in_function(crate, found, fields, changed, log):
 
 def check_refusals():
     count = 0
+    tried = set()
     for crate in sorted(root.glob('crates/*')):
         for file, edit, fields, changed in edits(crate):
             log = root / 'target' / 'must-fail' / crate.name / file.stem / '.log'
@@ -163,6 +169,10 @@ def check_refusals():
                 faults.append(f'{where}: rt ci left no log of it')
                 continue
             count += 1
+            own = {(file, x[0], x[2]) for x in changed_functions(crate, fields, changed)} if 'law' not in fields else set()
+            if own & tried:
+                faults.append(f'{where}: another wrong program of this edit changes the same function')
+            tried |= own
             found = errors_in(log)
             if not found or any(word in found[0][2] for word in UNFIT):
                 faults.append(f'{where}: its log names no fact first: {found[0] if found else ""}')

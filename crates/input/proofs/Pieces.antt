@@ -1,14 +1,14 @@
 -- The line of an input in pieces is the line of all its bytes.
 use mathlib.Core.Bool.{Bool, true, false}
-use mathlib.Core.List.{List, [], _++_, foldl, foldl-append, flatten}
-use mathlib.Core.Path.{_≡_, refl, sym, _∙_, ap}
+use mathlib.Core.List.{List, [], foldl, flatten}
+use mathlib.Core.Path.{_≡_, refl, _∙_, ap}
 use Prim.Native.Nat.{ℕ, _+_}
 use native.Mathlib.Omega.{arith}
 use borrow.Author.Tests.{ltb-true, ltb-false}
 use lib.Dec.{ltb}
 use lib.ListN.{length, take, drop}
 use lib.Seq.{length-take-le}
-use Rattle.lists.proofs.Stepping.{along-whole}
+use Rattle.lists.proofs.Stepping.{along-whole, folds-both}
 use Rattle.lists.proofs.Slices.{split}
 use Rattle.progress.specs.Progress.{fresh}
 use Rattle.batch.specs.Reports.{finish, verdictOf, report}
@@ -18,7 +18,6 @@ use Rattle.batch.proofs.WalkLaws.{counted}
 use Rattle.input.specs.Line.{lengthsOf, wordsFrom, leftOver, answerTo, inputReport, reportLine, inputLine}
 use Rattle.input.specs.Input.{Input, head, body, feed, wordsThrough, finished, inputIn, bytesIn, InputHanded, InPieces}
 use Rattle.input.specs.declared.OutputLine.{OutputLine}
-use Rattle.input.specs.declared.Stream.{Stream}
 use Rattle.input.proofs.Feeding.{lengths-gathered, lengths-completed, restOf, rest-length, words-fed}
 
 -- the words that the check of some words has gone through, where it refuses nothing, are those words
@@ -59,13 +58,6 @@ all-fed bs = by (ltb (length bs) 32) refl
         ∙ batch-fed (lengthsOf (take 32 bs)) (drop 32 bs)
         ∙ simp e
 
--- two pieces, one after the other, are one piece of both, and nothing changes without a piece
-handed-none : (s : Stream) → InputHanded s [] s
-handed-none s = refl
-
-handed-both : (s : Stream) (a : List ℕ) (t : Stream) (b : List ℕ) (r : Stream) → InputHanded s a t → InputHanded t b r → InputHanded s (a ++ b) r
-handed-both s a t b r h k = k ∙ ap (λ (x : Input). foldl feed x b) h ∙ sym (foldl-append feed (inputIn s) a b)
-
 -- For every list of pieces (the empty list and empty pieces among them), whatever states the functions returned on the way, the line is
 -- that of all bytes in order.
 pub pieces-line : (pieces : List (List ℕ)) (r : OutputLine) → InPieces pieces r → bytesIn r ≡ inputLine (flatten pieces)
@@ -73,5 +65,5 @@ unfolding inputLine
 pieces-line pieces r h =
     let t = h .2 .0 in
     h .2 .2 .0
-    ∙ ap (λ (x : Input). reportLine (finished x)) (along-whole InputHanded handed-none handed-both (h .0) pieces t (h .2 .1) ∙ ap (λ (x : Input). foldl feed x (flatten pieces)) (h .1))
+    ∙ ap (λ (x : Input). reportLine (finished x)) (along-whole InputHanded (λ s. refl) (folds-both inputIn feed) (h .0) pieces t (h .2 .1) ∙ ap (λ (x : Input). foldl feed x (flatten pieces)) (h .1))
     ∙ ap reportLine (all-fed (flatten pieces))

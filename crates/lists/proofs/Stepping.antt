@@ -1,6 +1,6 @@
 -- What is promised along a list of calls.
-use mathlib.Core.List.{List, [], _∷_, _++_, flatten}
-use mathlib.Core.Path.{ap, subst}
+use mathlib.Core.List.{List, [], _∷_, _++_, flatten, foldl, foldl-append}
+use mathlib.Core.Path.{_≡_, _∙_, sym, ap, subst}
 use Rattle.lists.specs.Calls.{Along}
 
 -- What holds of no call, and of one call before others of which it holds, holds of every list of calls.
@@ -22,3 +22,8 @@ pub along-view : {M S C : Type 0} (view : M → S) (Step : S → C → S → Typ
     → Along (λ (a : M) (c : C) (b : M). Step (view a) c (view b)) m cs r → Along Step (view m) cs (view r)
 along-view view Step m [] r e = ap view e
 along-view view Step m (c ∷ cs) r h = (view (h .0), h .1, along-view view Step (h .0) cs r (h .2))
+
+-- A state stands for a value (`view`) that each element changes by one step: two lists in a row are one list of both.
+pub folds-both : {S B A : Type 0} (view : S → B) (step : B → A → B) (s : S) (xs : List A) (t : S) (ys : List A) (r : S)
+    → view t ≡ foldl step (view s) xs → view r ≡ foldl step (view t) ys → view r ≡ foldl step (view s) (xs ++ ys)
+folds-both view step s xs t ys r h k = k ∙ ap (λ v. foldl step v ys) h ∙ sym (foldl-append step (view s) xs ys)

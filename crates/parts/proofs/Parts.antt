@@ -1,8 +1,8 @@
 -- A batch in parts is answered as the whole batch.
-use mathlib.Core.List.{List, [], _++_, foldl, foldl-append, flatten}
-use mathlib.Core.Path.{_≡_, refl, sym, _∙_, ap}
+use mathlib.Core.List.{List, [], _++_, foldl, flatten}
+use mathlib.Core.Path.{_≡_, refl, _∙_, ap}
 use Prim.Native.Nat.{ℕ}
-use Rattle.lists.proofs.Stepping.{along-whole}
+use Rattle.lists.proofs.Stepping.{along-whole, folds-both}
 use Rattle.batch.specs.Reports.{reportNumber, reportPlace, reportedOf, finish, verdictOf, report}
 use Rattle.batch.specs.Walk.{Walk, step}
 use Rattle.batch.specs.declared.Lengths.{Lengths}
@@ -16,7 +16,7 @@ handed-none s = (refl, refl)
 
 handed-both : (s : State) (a : List ℕ) (t : State) (b : List ℕ) (r : State) → Handed s a t → Handed t b r → Handed s (a ++ b) r
 handed-both s a t b r h k =
-    (k .0 ∙ ap (λ (w : Walk). foldl step w b) (h .0) ∙ sym (foldl-append step (walkIn s) a b), k .1 ∙ h .1)
+    (folds-both walkIn step s a t b r (h .0) (k .0), k .1 ∙ h .1)
 
 -- Document 01's claim on lists of parts: what is answered when a batch is handed over in parts is the answer to the whole batch,
 -- in number, place and lengths. For all lengths, all lists of parts (the empty list, empty parts, parts after a fault, more than
