@@ -1,13 +1,13 @@
 -- Tables of rules: what is judged of one that is in order, of two together, and when nothing is refused.
 use mathlib.Core.Path.{_≡_, refl, sym, ap, ap₂, subst, _∙_}
 use mathlib.Core.Bool.{Bool, true, false, cond, not, _&&_, _||_}
-use mathlib.Core.List.{List, [], _∷_, _++_}
+use mathlib.Core.List.{List, [], _∷_, _++_, foldl}
 use Prim.Native.Nat.{ℕ, _<_, _≤_}
 use native.Mathlib.Omega.{arith}
 use borrow.Author.Tests.{not-true, not-false, ltb-true, ltb-false, lt-ltb, le-ltb, eqb-true, eqb-false, eq-eqb, ne-eqb}
 use lib.Dec.{T, eqb, leb, ltb, leb→le}
 use Rattle.lists.proofs.Booleans.{no, both, either}
-use Rattle.answers.specs.Answers.{Rule, earlier, answerBy, judged}
+use Rattle.answers.specs.Answers.{Rule, earlier, answerBy, judged, holdsAt, unless}
 use Rattle.answers.specs.declared.Answer.{Answer}
 use Rattle.answers.specs.declared.Answer.the-variants.{Accepted, Refused}
 
@@ -151,18 +151,26 @@ in-order (r ∷ rs) t = by (both (after (r .number) (r .place) rs) (ascending rs
     by t rest true = rest (t .1)
     by t rest false = stays (r .number) (r .place) (judged rs) (late-judged (r .number) (r .place) rs (t .0))
 
--- A rule that holds is passed, one that does not is the answer; `kept` and `broken` say it of the test in the code.
-pub passes : (r : Rule) (rs : List Rule) → r .holds ≡ true → firstBroken (r ∷ rs) ≡ firstBroken rs
-passes r rs e = simp e
+-- The rules of a table in order, one behind the other, each unless one before it was broken.
+broken-stays : (n p : ℕ) (rs : List Rule) → foldl unless (Refused n p) rs ≡ Refused n p
+broken-stays n p [] = refl
+broken-stays n p (r ∷ rs) = broken-stays n p rs
 
-pub stops : (r : Rule) (rs : List Rule) → r .holds ≡ false → firstBroken (r ∷ rs) ≡ Refused (r .number) (r .place)
-stops r rs e = simp e
+first-of : (rs : List Rule) → foldl unless Accepted rs ≡ firstBroken rs
+first-of [] = refl
+first-of (r ∷ rs) = by (first-of rs) (r .holds)
+  where
+    by : foldl unless Accepted rs ≡ firstBroken rs → (h : Bool)
+        → foldl unless (cond h Accepted (Refused (r .number) (r .place))) rs ≡ cond h (firstBroken rs) (Refused (r .number) (r .place))
+    by rest true = rest
+    by rest false = broken-stays (r .number) (r .place) rs
 
+pub in-turn : (rs : List Rule) → T (ascending rs) → foldl unless Accepted rs ≡ judged rs
+in-turn rs t = first-of rs ∙ sym (in-order rs t)
+
+-- The test of the code says whether a rule holds.
 pub kept : {t h : Bool} → t ≡ h → not t ≡ false → h ≡ true
 kept {t} e f = sym e ∙ not-false t f
-
-pub broken : {t h : Bool} → t ≡ h → not t ≡ true → h ≡ false
-broken {t} e f = sym e ∙ not-true t f
 
 abbrev accepted : Answer → Bool
 accepted Accepted = true
@@ -192,6 +200,14 @@ all-hold (r ∷ rs) e = let h = both-accepted (r .holds) (judged rs) e in (h .0,
     both-accepted true a e = (refl, e)
     both-accepted false a e = absurd (refused a e)
 
+-- A rule of such a table, by its number and place.
+held : (n p : ℕ) (rs : List Rule) → Hold rs → holdsAt n p rs ≡ true
+held n p [] h = refl
+held n p (r ∷ rs) h = either (λ b. b ≡ true) (eqb (r .number) n && eqb (r .place) p) (r .holds) (holdsAt n p rs) (h .0) (held n p rs (h .1))
+
+pub rule-kept : (n p : ℕ) (rs : List Rule) → judged rs ≡ Accepted → holdsAt n p rs ≡ true
+rule-kept n p rs e = held n p rs (all-hold rs e)
+
 pub none-broken : (rs : List Rule) → Hold rs → judged rs ≡ Accepted
 none-broken [] h = refl
 none-broken (r ∷ rs) h = simp (h .0) (none-broken rs (h .1))
@@ -203,6 +219,10 @@ hold-both (r ∷ rs) ss h k = (h .0, hold-both rs ss (h .1) k)
 pub hold-each : (rs ss : List Rule) → Hold (rs ++ ss) → Hold rs × Hold ss
 hold-each [] ss h = (tt, h)
 hold-each (r ∷ rs) ss h = let k = hold-each rs ss (h .1) in ((h .0, k .0), k .1)
+
+-- Two tables that refuse nothing together refuse nothing alone.
+pub both-accept : (rs ss : List Rule) → judged (rs ++ ss) ≡ Accepted → (judged rs ≡ Accepted) × (judged ss ≡ Accepted)
+both-accept rs ss e = let h = hold-each rs ss (all-hold (rs ++ ss) e) in (none-broken rs (h .0), none-broken ss (h .1))
 
 -- A table whose rules have numbers from 1 to m and places up to n refuses with such a number and place.
 abbrev pub within : ℕ → ℕ → List Rule → Bool

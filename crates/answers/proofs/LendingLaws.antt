@@ -6,7 +6,8 @@ use native.Mathlib.Nat.{le-refl}
 use borrow.Author.Tests.{lt-ltb, le-ltb}
 use lib.ListN.{length, take, drop}
 use lib.Seq.{take-all}
-use Rattle.answers.specs.Lending.{next, lentAfter, roomFor}
+use Rattle.answers.specs.Answers.{next}
+use Rattle.answers.specs.Lending.{lentAfter, roomFor}
 use Rattle.answers.specs.declared.Answer.{Answer}
 use Rattle.answers.specs.declared.Answer.the-variants.{Accepted, Refused}
 

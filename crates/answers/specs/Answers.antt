@@ -1,6 +1,6 @@
 -- Answers in document 01's numbers and places, and rules that are judged together.
 use Prim.Native.Nat.{ℕ}
-use mathlib.Core.Bool.{Bool, cond, _&&_, _||_}
+use mathlib.Core.Bool.{Bool, true, cond, _&&_, _||_}
 use mathlib.Core.List.{List, [], _∷_}
 use lib.Dec.{eqb, ltb}
 use Rattle.answers.specs.declared.Answer.{Answer}
@@ -37,3 +37,16 @@ answerBy r = cond (r .holds) Accepted (Refused (r .number) (r .place))
 abbrev pub judged : List Rule → Answer
 judged [] = Accepted
 judged (r ∷ rs) = earlier (answerBy r) (judged rs)
+
+-- A rule of a table by its number and place: whether it holds.
+abbrev pub holdsAt : ℕ → ℕ → List Rule → Bool
+holdsAt n p [] = true
+holdsAt n p (r ∷ rs) = cond (eqb (r .number) n && eqb (r .place) p) (r .holds) (holdsAt n p rs)
+
+-- The next answer where nothing was refused before it; and an answer that goes on unless a rule is broken.
+abbrev pub next : Answer → Answer → Answer
+next Accepted b = b
+next (Refused n p) b = Refused n p
+
+abbrev pub unless : Answer → Rule → Answer
+unless a r = next a (answerBy r)

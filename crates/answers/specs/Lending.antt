@@ -7,11 +7,6 @@ use lib.ListN.{length, drop}
 use Rattle.answers.specs.declared.Answer.{Answer}
 use Rattle.answers.specs.declared.Answer.the-variants.{Accepted, Refused}
 
--- The next answer where nothing was refused before it.
-abbrev pub next : Answer → Answer → Answer
-next Accepted b = b
-next (Refused n p) b = Refused n p
-
 -- What lent memory holds after an answer: what was to be written, and what stood beyond it; or all that stood there. "No
 -- refusal writes into lent memory."
 abbrev pub lentAfter : Answer → List ℕ → List ℕ → List ℕ

@@ -13,11 +13,11 @@ use Rattle.macroblock.specs.Cases.{motionOf, caseOf, vectorWords}
 use Rattle.macroblock.specs.Macroblocks.{macroblockOf}
 use Rattle.macroblock.specs.Rules.{keptBy, fieldRules, vectorRules, commandRules}
 use Rattle.records.specs.Records.{recordOf}
-use Rattle.picture.specs.Surfaces.{surfaceOf, surfaceTable, surfaceRules}
-use Rattle.picture.specs.Pictures.{pictureOf, pictureTable, pictureRules}
+use Rattle.picture.specs.Surfaces.{surfaceOf, surfaceRules}
+use Rattle.picture.specs.Pictures.{pictureOf, pictureRules}
 use Rattle.progress.specs.Progress.{fresh}
 use Rattle.placement.specs.Blocks.{forwardOf, backwardOf, predicted, blocksOf}
-use Rattle.placement.specs.Placing.{placedBy, placedRules, macroblockRules}
+use Rattle.placement.specs.Placing.{placedRules, macroblockRules}
 use Rattle.placement.specs.Progressing.{positionAfter, stageAfter, extentsAfter, progressAfter, macroblockNext}
 use Rattle.sequence.specs.Sequence.{surfaceNext, pictureNext, groupNext, endNext}
 use Rattle.sequence.specs.Judging.{rulesOf, nextOf, judge}
@@ -146,9 +146,9 @@ every-case : map answered cases ≡ map expected cases
 unfolding cases p1 moved
     report verdictOf measured bufferRules step after
     judge rulesOf nextOf surfaceNext pictureNext groupNext endNext
-    macroblockRules placedRules placedBy macroblockNext progressAfter extentsAfter stageAfter positionAfter
+    macroblockRules placedRules macroblockNext progressAfter extentsAfter stageAfter positionAfter
     blocksOf predicted forwardOf backwardOf fresh
-    surfaceRules surfaceTable surfaceOf pictureRules pictureTable pictureOf
+    surfaceRules surfaceOf pictureRules pictureOf
     headerOf lookUp table commandRules fieldRules vectorRules keptBy macroblockOf caseOf motionOf vectorWords recordOf
     vectorOf vectorInRange blockAt joined emptyExtent address
 every-case = refl

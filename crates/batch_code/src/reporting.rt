@@ -11,19 +11,14 @@ ghost use Rattle.batch.specs.Reports.{bufferRules, measured};
 fn buffer_fault(extents: Extents, lengths: Lengths) -> Answer
     ensures { λ r. ⌜ r ≡ judged (bufferRules extents lengths) ⌝ }
 {
-    if lengths.source < extents.source.end {
-        return Answer::Refused(13, 0);
-    }
-    if lengths.reconstructed < extents.reconstructed.end {
-        return Answer::Refused(13, 1);
-    }
-    if lengths.forward < extents.forward.end {
-        return Answer::Refused(13, 2);
-    }
-    if lengths.backward < extents.backward.end {
-        return Answer::Refused(13, 3);
-    }
-    Answer::Accepted
+    let source = extents.source.end <= lengths.source;
+    let reconstructed = extents.reconstructed.end <= lengths.reconstructed;
+    let forward = extents.forward.end <= lengths.forward;
+    let backward = extents.backward.end <= lengths.backward;
+    let a = answers_code::unless(Answer::Accepted, 13, 0, source);
+    let a = answers_code::unless(a, 13, 1, reconstructed);
+    let a = answers_code::unless(a, 13, 2, forward);
+    answers_code::unless(a, 13, 3, backward)
 }
 
 // The answer to a whole batch that keeps every other rule, from what it touches.

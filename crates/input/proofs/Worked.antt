@@ -15,11 +15,11 @@ use Rattle.headers.specs.Headers.{table, lookUp, headerOf}
 use Rattle.macroblock.specs.Cases.{motionOf, caseOf, vectorWords}
 use Rattle.macroblock.specs.Macroblocks.{macroblockOf}
 use Rattle.macroblock.specs.Rules.{keptBy, fieldRules, vectorRules, commandRules}
-use Rattle.picture.specs.Surfaces.{surfaceOf, surfaceTable, surfaceRules}
-use Rattle.picture.specs.Pictures.{pictureOf, pictureTable, pictureRules}
+use Rattle.picture.specs.Surfaces.{surfaceOf, surfaceRules}
+use Rattle.picture.specs.Pictures.{pictureOf, pictureRules}
 use Rattle.progress.specs.Progress.{fresh}
 use Rattle.placement.specs.Blocks.{forwardOf, backwardOf, predicted, blocksOf}
-use Rattle.placement.specs.Placing.{placedBy, placedRules, macroblockRules}
+use Rattle.placement.specs.Placing.{placedRules, macroblockRules}
 use Rattle.placement.specs.Progressing.{positionAfter, stageAfter, extentsAfter, progressAfter, macroblockNext}
 use Rattle.sequence.specs.Sequence.{surfaceNext, pictureNext, groupNext, endNext}
 use Rattle.sequence.specs.Judging.{rulesOf, nextOf, judge}
@@ -91,9 +91,9 @@ every-line : map (λ k. inputLine (k .given)) cases ≡ map (λ k. ascii (k .lin
 unfolding flatten cases p1 inputLine inputReport answerTo decimal
     report verdictOf measured bufferRules step after
     judge rulesOf nextOf surfaceNext pictureNext groupNext endNext
-    macroblockRules placedRules placedBy macroblockNext progressAfter extentsAfter stageAfter positionAfter
+    macroblockRules placedRules macroblockNext progressAfter extentsAfter stageAfter positionAfter
     blocksOf predicted forwardOf backwardOf fresh
-    surfaceRules surfaceTable surfaceOf pictureRules pictureTable pictureOf
+    surfaceRules surfaceOf pictureRules pictureOf
     headerOf lookUp table commandRules fieldRules vectorRules keptBy macroblockOf caseOf motionOf vectorWords
     vectorOf vectorInRange blockAt joined emptyExtent address
 every-line = refl

@@ -14,20 +14,19 @@ use Rattle.fields.specs.Word.{Field, width, bits, packed, isSet, flag, zeroBits
 use Rattle.fields.specs.Bytes.{elements}
 use Rattle.fields.proofs.Elements.{elements-all}
 use Rattle.fields.proofs.Packing.{valueIn, clear, piece, packed-field, packed-lt, packed-is, bits-cut}
-use Rattle.answers.specs.Answers.{Rule}
+use Rattle.answers.specs.Answers.{holdsAt}
 use Rattle.macroblock.specs.Cases.{motion, motionOf, caseOf, vectorWords}
 use Rattle.macroblock.specs.Legal.{Words, LegalCommand, Legal}
 use Rattle.headers.specs.Words.{wordAt}
 use Rattle.macroblock.specs.Macroblocks.{intraType, kindIn, typeOf, motionIn, flagsIn, macroblockOf, fields1, fields2, fields3, fields4, wordsOf}
-use Rattle.macroblock.specs.Rules.{keptBy, typePermitted, fixed1, fixed3, fixed4, fieldRules, vectorRules, copied, commandRules}
+use Rattle.macroblock.specs.Rules.{keptBy, typePermitted, fieldRules, vectorRules, commandRules}
 use Rattle.macroblock.specs.declared.Case.{Case}
 use Rattle.macroblock.specs.declared.Case.the-variants.{Intra, Inter}
 use Rattle.macroblock.specs.declared.Prediction.the-variants.{Forward, Backward, Both}
-use Rattle.macroblock.specs.declared.Kept.{Kept}
 use Rattle.macroblock.specs.declared.Macroblock.{Macroblock}
 use Rattle.macroblock.proofs.CaseLaws.{vectors-four, vectors-listed, vectors-words, case-fits, vectors-again, case-again, copies-again, type-back}
 use Rattle.macroblock.proofs.Congruence.{same-flags, same-macroblock}
-use Rattle.answers.proofs.Judging.{Hold, all-hold, none-broken, hold-both, hold-each, within}
+use Rattle.answers.proofs.Judging.{Hold, none-broken, hold-both, rule-kept, within}
 
 same-four : {a b c d a′ b′ c′ d′ : ℕ} → a ≡ a′ → b ≡ b′ → c ≡ c′ → d ≡ d′ → a ∷ b ∷ c ∷ d ∷ [] ≡ a′ ∷ b′ ∷ c′ ∷ d′ ∷ []
 same-four ea eb ec ed = cc
@@ -39,12 +38,6 @@ permitted i t = cond (isSet i) (eqb t intraType) (leb 1 t && leb t 3)
 -- a run of bits that no field covers is zero
 clear-zero : (fs : List Field) (h l : ℕ) → T (clear fs h l) → valueIn fs h l ≡ 0 → zeroBits (packed fs) h l ≡ true
 clear-zero fs h l t e = eq-eqb _ 0 (packed-field fs h l t ∙ e)
-
-abbrev fieldsOf : ℕ → ℕ → ℕ → Kept → List Rule
-fieldsOf w1 w3 w4 kept = fieldRules (fixed1 w1) (typePermitted w1) (fixed3 w3) (fixed4 w4) kept
-
-abbrev copies : List ℕ → List Rule
-copies ws = vectorRules (copied ws 5 0) (copied ws 6 1) (copied ws 7 2) (copied ws 8 3)
 
 abbrev first : Macroblock → List Field
 first m = fields1 (m .upper) (motionOf (m .case) .kind) (m .skip)
@@ -109,8 +102,8 @@ module _ (m : Macroblock) where
       ap (λ (k : ℕ). vectorWords (motion k (wordAt (vectorWords (motionOf (m .case))) 0) (wordAt (vectorWords (motionOf (m .case))) 1))) kind-back
       ∙ copies-again (m .case)
 
-  hold-fields : Legal m → Hold (fieldsOf (packed (first m)) (packed (fields3 m)) (packed (fields4 m)) (keptBy m))
-  unfolding fieldRules
+  hold-fields : Legal m → Hold (fieldRules (keptBy m) (wordsOf m))
+  unfolding wordsOf fieldRules
   hold-fields l =
       let clear1 = clear-zero (first m) in
       let fixed1 = both-true (clear1 15 14 tt refl) (both-true (clear1 7 3 tt refl) (clear1 1 0 tt refl)) in
@@ -120,7 +113,7 @@ module _ (m : Macroblock) where
       let skip = both-true (l .skip-inside-slice) (l .skip-pattern) in
       (fixed1, (permitted, (skip, (fixed3, (l .intra-pattern, (fixed4, (l .quantiser-permitted, tt)))))))
 
-  hold-vectors : Hold (copies (wordsOf m))
+  hold-vectors : Hold (vectorRules (wordsOf m))
   unfolding wordsOf vectorRules
   hold-vectors =
       let same : (i : ℕ) → eqb (wordAt (vectorWords (motionOf (m .case))) i) (wordAt (vectorWords (motionIn (wordsOf m))) i) ≡ true =
@@ -131,8 +124,7 @@ module _ (m : Macroblock) where
   pub words-kept : Legal m → LegalCommand (wordsOf m)
   unfolding wordsOf commandRules
   words-kept l =
-      let table : Macroblock → List Rule = λ n. fieldsOf (packed (first m)) (packed (fields3 m)) (packed (fields4 m)) (keptBy n) in
-      let fields = subst (λ (n : Macroblock). Hold (table n)) (sym (macroblock-back l)) (hold-fields l) in
+      let fields = subst (λ (n : Macroblock). Hold (fieldRules (keptBy n) (wordsOf m))) (sym (macroblock-back l)) (hold-fields l) in
       let vectors = vectors-words (m .case) (l .case-fits) in
       record {
         nine = ap (λ (n : ℕ). suc (suc (suc (suc (suc n))))) (vectors-four (motionOf (m .case)));
@@ -140,7 +132,7 @@ module _ (m : Macroblock) where
         header = refl;
         kept =
             none-broken (commandRules (wordsOf m))
-            (hold-both (table (macroblockOf (wordsOf m))) (copies (wordsOf m)) fields hold-vectors);
+            (hold-both (fieldRules (keptBy (macroblockOf (wordsOf m))) (wordsOf m)) (vectorRules (wordsOf m)) fields hold-vectors);
       }
 
 -- From a command's words to its macroblock and back.
@@ -172,15 +164,14 @@ module _ (ws : List ℕ) (c : LegalCommand ws) where
   abbrev w : ℕ → ℕ
   w i = wordAt ws i
 
-  rules : Hold (fieldsOf (w 1) (w 3) (w 4) (keptBy m)) × Hold (copies ws)
-  unfolding commandRules
-  rules = hold-each (fieldsOf (w 1) (w 3) (w 4) (keptBy m)) (copies ws) (all-hold (commandRules ws) (c .kept))
+  -- a rule of the command, by its number and word
+  held : (n i : ℕ) → holdsAt n i (commandRules ws) ≡ true
+  held n i = rule-kept n i (commandRules ws) (c .kept)
 
   -- A command's macroblock is legal.
   pub macroblock-legal : Legal (macroblockOf ws)
-  unfolding macroblockOf fieldRules
+  unfolding macroblockOf commandRules fieldRules
   macroblock-legal =
-      let h = rules .0 in
       let k = keptBy m in
       record {
         column-fits = bits-lt (w 2) 15 0;
@@ -190,11 +181,11 @@ module _ (ws : List ℕ) (c : LegalCommand ws) where
         pattern-fits = bits-lt (w 3) 11 6;
         max-fits = bits-lt (w 3) 31 24;
         target-fits = bits-lt (w 3) 23 16;
-        intra-not-skipped = and-right (typePermitted (w 1)) (k .«intra_not_skipped») (h .1 .0);
-        intra-pattern = h .1 .1 .1 .1 .0;
-        quantiser-permitted = h .1 .1 .1 .1 .1 .1 .0;
-        skip-inside-slice = and-left (k .«skip_inside_slice») (k .«skip_pattern») (h .1 .1 .0);
-        skip-pattern = and-right (k .«skip_inside_slice») (k .«skip_pattern») (h .1 .1 .0);
+        intra-not-skipped = and-right (typePermitted (w 1)) (k .«intra_not_skipped») (held 5 1);
+        intra-pattern = held 5 3;
+        quantiser-permitted = held 5 4;
+        skip-inside-slice = and-left (k .«skip_inside_slice») (k .«skip_pattern») (held 11 1);
+        skip-pattern = and-right (k .«skip_inside_slice») (k .«skip_pattern») (held 11 1);
       }
 
   none : (i hi lo : ℕ) → zeroBits (w i) hi lo ≡ true → 0 ≡ bits (w i) hi lo
@@ -205,12 +196,11 @@ module _ (ws : List ℕ) (c : LegalCommand ws) where
       (none i hi lo (and-left (zeroBits (w i) hi lo) (zeroBits (w i) h l) e), none i h l (and-right (zeroBits (w i) hi lo) (zeroBits (w i) h l) e))
 
   word1-back : packed (first m) ≡ w 1
-  unfolding macroblockOf fieldRules
+  unfolding macroblockOf commandRules fieldRules
   word1-back =
-      let h = rules .0 in
-      let top = and-left (zeroBits (w 1) 15 14) (zeroBits (w 1) 7 3 && zeroBits (w 1) 1 0) (h .0) in
-      let low = both-none 1 7 3 1 0 (and-right (zeroBits (w 1) 15 14) (zeroBits (w 1) 7 3 && zeroBits (w 1) 1 0) (h .0)) in
-      let typed-right = and-left (typePermitted (w 1)) (keptBy m .«intra_not_skipped») (h .1 .0) in
+      let top = and-left (zeroBits (w 1) 15 14) (zeroBits (w 1) 7 3 && zeroBits (w 1) 1 0) (held 4 1) in
+      let low = both-none 1 7 3 1 0 (and-right (zeroBits (w 1) 15 14) (zeroBits (w 1) 7 3 && zeroBits (w 1) 1 0) (held 4 1)) in
+      let typed-right = and-left (typePermitted (w 1)) (keptBy m .«intra_not_skipped») (held 5 1) in
       let typed = type-back (bits (w 1) 13 13) (bits (w 1) 12 8) (w 5) (w 6) (bits-lt (w 1) 13 13) typed-right in
       packed-is (first m) (w 1) (piece 1 0 ∷ piece 2 2 ∷ piece 7 3 ∷ piece 12 8 ∷ piece 13 13 ∷ piece 15 14 ∷ piece 31 16 ∷ []) (word-below ws (c .words) 1) tt (
         low .1,
@@ -237,9 +227,9 @@ module _ (ws : List ℕ) (c : LegalCommand ws) where
   word2-back = packed-is (fields2 m) (w 2) (piece 15 0 ∷ piece 31 16 ∷ []) (word-below ws (c .words) 2) tt (bits-cut (w 2) 15 0, (bits-cut (w 2) 31 16, tt))
 
   word3-back : packed (fields3 m) ≡ w 3
-  unfolding macroblockOf fieldRules
+  unfolding macroblockOf commandRules fieldRules
   word3-back =
-      let low = both-none 3 15 12 5 0 (rules .0 .1 .1 .1 .0) in
+      let low = both-none 3 15 12 5 0 (held 4 3) in
       packed-is (fields3 m) (w 3) (piece 5 0 ∷ piece 11 6 ∷ piece 15 12 ∷ piece 23 16 ∷ piece 31 24 ∷ []) (word-below ws (c .words) 3) tt (
         low .1,
         (
@@ -255,9 +245,9 @@ module _ (ws : List ℕ) (c : LegalCommand ws) where
       )
 
   word4-back : packed (fields4 m) ≡ w 4
-  unfolding macroblockOf fieldRules
+  unfolding macroblockOf commandRules fieldRules
   word4-back =
-      let low = both-none 4 29 28 23 5 (rules .0 .1 .1 .1 .1 .1 .0) in
+      let low = both-none 4 29 28 23 5 (held 4 4) in
       packed-is (fields4 m) (w 4) (piece 4 0 ∷ piece 23 5 ∷ piece 24 24 ∷ piece 25 25 ∷ piece 26 26 ∷ piece 27 27 ∷ piece 29 28 ∷ piece 30 30 ∷ piece 31 31 ∷ []) (word-below ws (c .words) 4) tt (
         bits-cut (w 4) 4 0,
         (
@@ -285,11 +275,10 @@ module _ (ws : List ℕ) (c : LegalCommand ws) where
       )
 
   vectors-back : vectorWords (motionOf (m .case)) ≡ w 5 ∷ w 6 ∷ w 7 ∷ w 8 ∷ []
-  unfolding macroblockOf vectorRules
+  unfolding macroblockOf commandRules fieldRules vectorRules
   vectors-back =
-      let h = rules .1 in
       let v = vectorWords (motionIn ws) in
-      let listed = same-four (eqb-true (w 5) (wordAt v 0) (h .0)) (eqb-true (w 6) (wordAt v 1) (h .1 .0)) (eqb-true (w 7) (wordAt v 2) (h .1 .1 .0)) (eqb-true (w 8) (wordAt v 3) (h .1 .1 .1 .0)) in
+      let listed = same-four (eqb-true (w 5) (wordAt v 0) (held 8 5)) (eqb-true (w 6) (wordAt v 1) (held 8 6)) (eqb-true (w 7) (wordAt v 2) (held 8 7)) (eqb-true (w 8) (wordAt v 3) (held 8 8)) in
       vectors-again (motionIn ws) (word-below ws (c .words) 5) (word-below ws (c .words) 6) ∙ sym (listed ∙ vectors-listed (motionIn ws))
 
   -- A command comes back from its macroblock, all nine words.

@@ -8,11 +8,10 @@ use lib.ListN.{getD}
 use Rattle.macroblock.specs.Cases.{vectorWords}
 use Rattle.headers.specs.Words.{wordAt}
 use Rattle.macroblock.specs.Macroblocks.{motionIn, assembled}
-use Rattle.macroblock.specs.Rules.{fieldRules, vectorRules, copied}
+use Rattle.macroblock.specs.Rules.{copied}
 use Rattle.macroblock.specs.declared.Case.{Case}
 use Rattle.macroblock.specs.declared.Flags.{Flags}
 use Rattle.macroblock.specs.declared.Macroblock.{Macroblock}
-use Rattle.macroblock.specs.declared.Kept.{Kept}
 
 abbrev pub flagsMade : Bool → Bool → Bool → Bool → Bool → Bool → Flags
 flagsMade a b c d e f = record { «first_in_slice» = a; «last_in_slice» = b; «first_in_group» = c; «last_in_group» = d; clamp = e; «no_skip_conversion» = f }
@@ -31,15 +30,9 @@ pub same-assembled : {a b c d a′ b′ c′ d′ : ℕ} {e e′ : Case} → a �
 same-assembled {a} {b} {c} {d} {a′} {b′} {c′} {d′} {e} {e′} ea eb ec ed ee =
     ap₂ (λ (x y : ℕ). assembled x y c d e) ea eb ∙ ap₂ (λ (x y : ℕ). assembled a′ b′ x y e) ec ed ∙ ap (assembled a′ b′ c′ d′) ee
 
-pub same-rules : {a b c d a′ b′ c′ d′ : Bool} → a ≡ a′ → b ≡ b′ → c ≡ c′ → d ≡ d′ → vectorRules a b c d ≡ vectorRules a′ b′ c′ d′
-same-rules {a} {b} {c} {d} {a′} {b′} {c′} {d′} ea eb ec ed = ap₂ (λ (x y : Bool). vectorRules x y c d) ea eb ∙ ap₂ (vectorRules a′ b′) ec ed
-
 -- a word against its copy, from what the code read
 pub copied-by : (ws : List ℕ) (i j : ℕ) {w : ℕ} {vs : List ℕ} → w ≡ wordAt ws i → vs ≡ vectorWords (motionIn ws) → eqb w (getD vs j 0) ≡ copied ws i j
 copied-by ws i j ew ev = ap₂ (λ (x : ℕ) (xs : List ℕ). eqb x (getD xs j 0)) ew ev
-
-pub same-fields : (k : Kept) {a b c d a′ b′ c′ d′ : Bool} → a ≡ a′ → b ≡ b′ → c ≡ c′ → d ≡ d′ → fieldRules a b c d k ≡ fieldRules a′ b′ c′ d′ k
-same-fields k {a} {b} {c} {d} {a′} {b′} {c′} {d′} ea eb ec ed = ap₂ (λ (x y : Bool). fieldRules x y c d k) ea eb ∙ ap₂ (λ (x y : Bool). fieldRules a′ b′ x y k) ec ed
 
 -- nine words from the header, words 1 to 4 and the vectors
 pub same-words : {h a b c d a' b' c' d' : ℕ} {v v' : List ℕ} → a ≡ a' → b ≡ b' → c ≡ c' → d ≡ d' → v ≡ v' → h ∷ a ∷ b ∷ c ∷ d ∷ v ≡ h ∷ a' ∷ b' ∷ c' ∷ d' ∷ v'

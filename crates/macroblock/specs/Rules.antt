@@ -44,30 +44,28 @@ fixed3 w = zeroBits w 15 12 && zeroBits w 5 0
 abbrev pub fixed4 : ℕ → Bool
 fixed4 w = zeroBits w 29 28 && zeroBits w 23 5
 
--- The tables: number, word, and whether the rule holds. "A word's bits that must always have one value give 4; any other rule
--- of a word list without a number of its own gives 5, skip on an intra macroblock .. included." "11 skip rule: word 1".
-unfoldable pub fieldRules : Bool → Bool → Bool → Bool → Kept → List Rule
-fieldRules bits1 typed bits3 bits4 kept =
-    rule 4 1 bits1
-    ∷ rule 5 1 (typed && kept .«intra_not_skipped»)
-    ∷ rule 11 1 (kept .«skip_inside_slice» && kept .«skip_pattern»)
-    ∷ rule 4 3 bits3
-    ∷ rule 5 3 (kept .«intra_pattern»)
-    ∷ rule 4 4 bits4
-    ∷ rule 5 4 (kept .quantiser)
-    ∷ []
-
--- Words 5 to 8: whether each is the vector that is there, or the copy in place of one that is missing.
-unfoldable pub vectorRules : Bool → Bool → Bool → Bool → List Rule
-vectorRules five six seven eight = rule 8 5 five ∷ rule 8 6 six ∷ rule 8 7 seven ∷ rule 8 8 eight ∷ []
-
 -- Word i of a command is what stands in the j-th of its words 5 to 8, j from 0.
 abbrev pub copied : List ℕ → ℕ → ℕ → Bool
 copied ws i j = eqb (wordAt ws i) (wordAt (vectorWords (motionIn ws)) j)
 
+-- The tables: number, word, and whether the rule holds. "A word's bits that must always have one value give 4; any other rule
+-- of a word list without a number of its own gives 5, skip on an intra macroblock .. included." "11 skip rule: word 1".
+unfoldable pub fieldRules : Kept → List ℕ → List Rule
+fieldRules kept ws =
+    rule 4 1 (fixed1 (wordAt ws 1))
+    ∷ rule 5 1 (typePermitted (wordAt ws 1) && kept .«intra_not_skipped»)
+    ∷ rule 11 1 (kept .«skip_inside_slice» && kept .«skip_pattern»)
+    ∷ rule 4 3 (fixed3 (wordAt ws 3))
+    ∷ rule 5 3 (kept .«intra_pattern»)
+    ∷ rule 4 4 (fixed4 (wordAt ws 4))
+    ∷ rule 5 4 (kept .quantiser)
+    ∷ []
+
+-- Words 5 to 8: each is the vector that is there, or the copy in place of one that is missing.
+unfoldable pub vectorRules : List ℕ → List Rule
+vectorRules ws = rule 8 5 (copied ws 5 0) ∷ rule 8 6 (copied ws 6 1) ∷ rule 8 7 (copied ws 7 2) ∷ rule 8 8 (copied ws 8 3) ∷ []
+
 -- What a command keeps by itself: "4, 5 (without picture type), 8 and the first two skip rules". A picture's rules are further
 -- tables beside these; `judged` takes them in the order of their words and numbers.
 unfoldable pub commandRules : List ℕ → List Rule
-commandRules ws =
-    fieldRules (fixed1 (wordAt ws 1)) (typePermitted (wordAt ws 1)) (fixed3 (wordAt ws 3)) (fixed4 (wordAt ws 4)) (keptBy (macroblockOf ws))
-    ++ vectorRules (copied ws 5 0) (copied ws 6 1) (copied ws 7 2) (copied ws 8 3)
+commandRules ws = fieldRules (keptBy (macroblockOf ws)) ws ++ vectorRules ws

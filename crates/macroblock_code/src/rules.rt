@@ -7,7 +7,7 @@ use macroblock::Kept;
 use macroblock::Macroblock;
 ghost use mathlib.Core.Path.{_≡_};
 ghost use Rattle.answers.specs.Answers.{judged};
-ghost use Rattle.macroblock.specs.Rules.{keptBy, typePermitted, fixed1, fixed3, fixed4, fieldRules, vectorRules, copied, commandRules};
+ghost use Rattle.macroblock.specs.Rules.{keptBy, typePermitted, fixed1, fixed3, fixed4, fieldRules, vectorRules, commandRules};
 
 // Which rules of the macroblock itself hold.
 pub fn kept_by(macroblock: Macroblock) -> Kept
@@ -38,76 +38,59 @@ fn type_permitted(word: u32) -> bool
     (1 <= kind) & (kind <= 3)
 }
 
-// Words 1, 3 and 4, from whether each is as it should be.
-fn field_fault(bits1: bool, typed: bool, bits3: bool, bits4: bool, kept: Kept) -> Answer
-    ensures { λ r. ⌜ r ≡ judged (fieldRules bits1 typed bits3 bits4 kept) ⌝ }
+// Whether the bits of words 1, 3 and 4 that have one value have it.
+fn fixed1(word: u32) -> bool
+    ensures { λ r. ⌜ r ≡ fixed1 word ⌝ }
 {
-    let permitted = typed & kept.intra_not_skipped;
+    let high = fields_code::has_bits(word, 15, 14, 0);
+    let middle = fields_code::has_bits(word, 7, 3, 0);
+    let low = fields_code::has_bits(word, 1, 0, 0);
+    high & (middle & low)
+}
+
+fn fixed3(word: u32) -> bool
+    ensures { λ r. ⌜ r ≡ fixed3 word ⌝ }
+{
+    fields_code::has_bits(word, 15, 12, 0) & fields_code::has_bits(word, 5, 0, 0)
+}
+
+fn fixed4(word: u32) -> bool
+    ensures { λ r. ⌜ r ≡ fixed4 word ⌝ }
+{
+    fields_code::has_bits(word, 29, 28, 0) & fields_code::has_bits(word, 23, 5, 0)
+}
+
+// Words 1, 3 and 4.
+fn field_fault(words: &[u32], kept: Kept) -> Answer
+    ensures { λ r. ⌜ r ≡ judged (fieldRules kept (now (words .entry))) ⌝ }
+{
+    let one = headers_code::word_at(words, 1);
+    let three = headers_code::word_at(words, 3);
+    let four = headers_code::word_at(words, 4);
+    let typed = type_permitted(one) & kept.intra_not_skipped;
     let skip = kept.skip_inside_slice & kept.skip_pattern;
-    if !bits1 {
-        return Answer::Refused(4, 1);
-    }
-    if !permitted {
-        return Answer::Refused(5, 1);
-    }
-    if !skip {
-        return Answer::Refused(11, 1);
-    }
-    if !bits3 {
-        return Answer::Refused(4, 3);
-    }
-    if !kept.intra_pattern {
-        return Answer::Refused(5, 3);
-    }
-    if !bits4 {
-        return Answer::Refused(4, 4);
-    }
-    if !kept.quantiser {
-        return Answer::Refused(5, 4);
-    }
-    Answer::Accepted
+    let a = answers_code::unless(Answer::Accepted, 4, 1, fixed1(one));
+    let a = answers_code::unless(a, 5, 1, typed);
+    let a = answers_code::unless(a, 11, 1, skip);
+    let a = answers_code::unless(a, 4, 3, fixed3(three));
+    let a = answers_code::unless(a, 5, 3, kept.intra_pattern);
+    let a = answers_code::unless(a, 4, 4, fixed4(four));
+    answers_code::unless(a, 5, 4, kept.quantiser)
 }
 
-// Whether words 1, 3 and 4 have what they may have.
-fn words_fault(one: u32, three: u32, four: u32, kept: Kept) -> Answer
-    ensures { λ r. ⌜ r ≡ judged (fieldRules (fixed1 one) (typePermitted one) (fixed3 three) (fixed4 four) kept) ⌝ }
-{
-    let bits1 = fields_code::has_bits(one, 15, 14, 0)
-        & (fields_code::has_bits(one, 7, 3, 0) & fields_code::has_bits(one, 1, 0, 0));
-    let bits3 = fields_code::has_bits(three, 15, 12, 0) & fields_code::has_bits(three, 5, 0, 0);
-    let bits4 = fields_code::has_bits(four, 29, 28, 0) & fields_code::has_bits(four, 23, 5, 0);
-    field_fault(bits1, type_permitted(one), bits3, bits4, kept)
-}
-
-// Words 5 to 8, from whether each is as it should be.
-fn vector_fault(five: bool, six: bool, seven: bool, eight: bool) -> Answer
-    ensures { λ r. ⌜ r ≡ judged (vectorRules five six seven eight) ⌝ }
-{
-    if !five {
-        return Answer::Refused(8, 5);
-    }
-    if !six {
-        return Answer::Refused(8, 6);
-    }
-    if !seven {
-        return Answer::Refused(8, 7);
-    }
-    if !eight {
-        return Answer::Refused(8, 8);
-    }
-    Answer::Accepted
-}
-
-// Whether words 5 to 8 are the vectors and copies that their kind asks for.
-fn copies_fault(words: &[u32]) -> Answer
-    ensures { λ r. ⌜ r ≡ judged (vectorRules (copied (now (words .entry)) 5 0) (copied (now (words .entry)) 6 1) (copied (now (words .entry)) 7 2) (copied (now (words .entry)) 8 3)) ⌝ }
+// Words 5 to 8: whether they are the vectors and copies that their kind asks for.
+fn vector_fault(words: &[u32]) -> Answer
+    ensures { λ r. ⌜ r ≡ judged (vectorRules (now (words .entry))) ⌝ }
 {
     let vectors = writing::vector_words(reading::motion_in(words));
     let five = headers_code::word_at(words, 5) == vectors[0];
     let six = headers_code::word_at(words, 6) == vectors[1];
     let seven = headers_code::word_at(words, 7) == vectors[2];
     let eight = headers_code::word_at(words, 8) == vectors[3];
-    vector_fault(five, six, seven, eight)
+    let a = answers_code::unless(Answer::Accepted, 8, 5, five);
+    let a = answers_code::unless(a, 8, 6, six);
+    let a = answers_code::unless(a, 8, 7, seven);
+    answers_code::unless(a, 8, 8, eight)
 }
 
 // The first rule that a MACROBLOCK command breaks by itself, with its word as the place.
@@ -115,9 +98,6 @@ pub fn fault_of(words: &[u32]) -> Answer
     ensures { λ r. ⌜ r ≡ judged (commandRules (now (words .entry))) ⌝ }
 {
     let kept = kept_by(reading::macroblock_of(words));
-    let one = headers_code::word_at(words, 1);
-    let three = headers_code::word_at(words, 3);
-    let four = headers_code::word_at(words, 4);
-    let fields = words_fault(one, three, four, kept);
-    answers_code::earlier(fields, copies_fault(words))
+    let fields = field_fault(words, kept);
+    answers_code::earlier(fields, vector_fault(words))
 }

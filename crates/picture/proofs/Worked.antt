@@ -4,8 +4,8 @@ use mathlib.Core.List.{List, [], _∷_, map}
 use Prim.Native.Nat.{ℕ}
 use Rattle.answers.specs.Answers.{judged, numberOf, placeOf}
 use Rattle.answers.specs.declared.Answer.{Answer}
-use Rattle.picture.specs.Pictures.{pictureOf, pictureTable, pictureRules}
-use Rattle.picture.specs.Surfaces.{surfaceOf, surfaceTable, surfaceRules}
+use Rattle.picture.specs.Pictures.{pictureOf, pictureRules}
+use Rattle.picture.specs.Surfaces.{surfaceOf, surfaceRules}
 use Rattle.picture.specs.declared.Frame.{Frame}
 use Rattle.picture.specs.declared.Picture.{Picture}
 
@@ -24,7 +24,7 @@ unfolding surfaces surfaceOf
 sizes = refl
 
 accepted : map (λ (ws : List ℕ). answered (judged (surfaceRules ws))) surfaces ≡ (0 ∷ 0 ∷ []) ∷ (0 ∷ 0 ∷ []) ∷ []
-unfolding surfaces surfaceRules surfaceTable surfaceOf
+unfolding surfaces surfaceRules surfaceOf
 accepted = refl
 
 -- word 1 not zero; bit 3 of word 2; in word 3 31:28 = 2, 27 = 0, 20 set, 2 set, 1:0 = 1; a pitch of 64, with a bit above C; that
@@ -55,7 +55,7 @@ refused : map (λ (ws : List ℕ). answered (judged (surfaceRules ws))) broken
     ∷ (4 ∷ 4 ∷ [])
     ∷ (4 ∷ 3 ∷ [])
     ∷ []
-unfolding broken surfaceRules surfaceTable surfaceOf
+unfolding broken surfaceRules surfaceOf
 refused = refl
 
 -- PICTURE. P1's; a P picture with H 68 and W 120; a B picture whose f codes all differ, with the greatest W and H
@@ -87,19 +87,19 @@ taken : over (frame 16 16 128 16) (picture 0xffff3400 0x200 0)
     ∷ over (frame 4096 2800 4096 2800) (picture 0xffff3400 0x200 0x00ae00ff)
     ∷ []
     ≡ (0 ∷ 0 ∷ []) ∷ (0 ∷ 0 ∷ []) ∷ (0 ∷ 0 ∷ []) ∷ (0 ∷ 0 ∷ []) ∷ (0 ∷ 0 ∷ []) ∷ []
-unfolding pictureOf pictureRules pictureTable
+unfolding pictureOf pictureRules
 taken = refl
 
 -- 13:12 = 1, 10 = 0, 9 = 1, and bits 5 and 0
 fixed : map (over (frame 16 16 128 16)) (picture 0xffff1400 0 0 ∷ picture 0xffff3000 0 0 ∷ picture 0xffff3600 0 0 ∷ picture 0xffff3420 0 0 ∷ picture 0xffff3401 0 0 ∷ [])
     ≡ (4 ∷ 1 ∷ []) ∷ (4 ∷ 1 ∷ []) ∷ (4 ∷ 1 ∷ []) ∷ (4 ∷ 1 ∷ []) ∷ (4 ∷ 1 ∷ []) ∷ []
-unfolding pictureOf pictureRules pictureTable
+unfolding pictureOf pictureRules
 fixed = refl
 
 -- type 0; I with a code 9; P with a code 0, 10, and a backward one; B with a code 15
 typed : map (over (frame 16 16 128 16)) (picture 0xffff3400 0 0 ∷ picture 0xff9f3400 0x200 0 ∷ picture 0xff903400 0x400 0 ∷ picture 0xffa13400 0x400 0 ∷ picture 0xf9913400 0x400 0 ∷ picture 0xf5913400 0x600 0 ∷ [])
     ≡ (5 ∷ 2 ∷ []) ∷ (5 ∷ 2 ∷ []) ∷ (5 ∷ 2 ∷ []) ∷ (5 ∷ 2 ∷ []) ∷ (5 ∷ 2 ∷ []) ∷ (5 ∷ 2 ∷ []) ∷ []
-unfolding pictureOf pictureRules pictureTable
+unfolding pictureOf pictureRules
 typed = refl
 
 -- H 67 and 69 for 1080; W 119 for 1920; W 2 for 16; C 1080, the height, in place of 1088 rows; pitch 128 for W 9; H 176
@@ -112,5 +112,5 @@ unfit : over (frame 1920 1080 1920 1088) (picture 0xffff3400 0x200 0x00420077)
     ∷ over (frame 16 2816 128 2816) (picture 0xffff3400 0x200 0x00af0000)
     ∷ []
     ≡ (5 ∷ 3 ∷ []) ∷ (5 ∷ 3 ∷ []) ∷ (5 ∷ 3 ∷ []) ∷ (5 ∷ 3 ∷ []) ∷ (5 ∷ 3 ∷ []) ∷ (5 ∷ 3 ∷ []) ∷ (5 ∷ 3 ∷ []) ∷ []
-unfolding pictureOf pictureRules pictureTable
+unfolding pictureOf pictureRules
 unfit = refl

@@ -63,14 +63,11 @@ sizePermitted f g =
     && ((fits (f .width) (g .columns) && fits (f .height) (g .rows))
     && (leb (16 * g .columns) (f .surface .pitch) && leb (16 * g .rows) (f .surface .«chroma_row»)))
 
--- The table: number, word, and whether the rule holds. Type and f codes "are judged at word 2".
-unfoldable pub pictureTable : Bool → Bool → Bool → List Rule
-pictureTable bits1 typed size = rule 4 1 bits1 ∷ rule 5 2 typed ∷ rule 5 3 size ∷ []
-
--- Of a command's words, over its surface; "4 to 12: unread."
+-- The table, over the command's surface: number, word, and whether the rule holds. Type and f codes "are judged at word 2"; "4 to
+-- 12: unread."
 unfoldable pub pictureRules : Frame → List ℕ → List Rule
 pictureRules f ws =
-    pictureTable
-    (pictureBits1 (wordAt ws 1))
-    (codesPermitted (pictureOf ws .coding) (pictureOf ws .forward) (pictureOf ws .backward))
-    (sizePermitted f (pictureOf ws .grid))
+    rule 4 1 (pictureBits1 (wordAt ws 1))
+    ∷ rule 5 2 (codesPermitted (pictureOf ws .coding) (pictureOf ws .forward) (pictureOf ws .backward))
+    ∷ rule 5 3 (sizePermitted f (pictureOf ws .grid))
+    ∷ []

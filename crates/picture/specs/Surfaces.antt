@@ -42,17 +42,12 @@ abbrev pub pitchPermitted : Frame → Bool
 pitchPermitted f = eqb (f .surface .pitch % 128) 0
 
 -- The table: number, word, and whether the rule holds. "A word's bits that must always have one value give 4; any other rule of
--- a word list without a number of its own gives 5, .. a pitch that is no multiple of 128 included."
-unfoldable pub surfaceTable : Bool → Bool → Bool → Bool → Bool → List Rule
-surfaceTable bits1 bits2 bits3 pitch bits4 =
-    rule 4 1 bits1 ∷ rule 4 2 bits2 ∷ rule 4 3 bits3 ∷ rule 5 3 pitch ∷ rule 4 4 bits4 ∷ []
-
--- Of a command's words; "5: unread."
+-- a word list without a number of its own gives 5, .. a pitch that is no multiple of 128 included." "5: unread."
 unfoldable pub surfaceRules : List ℕ → List Rule
 surfaceRules ws =
-    surfaceTable
-    (surfaceBits1 (wordAt ws 1))
-    (surfaceBits2 (wordAt ws 2))
-    (surfaceBits3 (wordAt ws 3))
-    (pitchPermitted (surfaceOf ws))
-    (surfaceBits4 (wordAt ws 4))
+    rule 4 1 (surfaceBits1 (wordAt ws 1))
+    ∷ rule 4 2 (surfaceBits2 (wordAt ws 2))
+    ∷ rule 4 3 (surfaceBits3 (wordAt ws 3))
+    ∷ rule 5 3 (pitchPermitted (surfaceOf ws))
+    ∷ rule 4 4 (surfaceBits4 (wordAt ws 4))
+    ∷ []

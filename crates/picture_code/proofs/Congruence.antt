@@ -1,13 +1,13 @@
 -- Equal parts make equal wholes, for the proofs of the functions: over plain variables, so that each is checked once.
 use mathlib.Core.Path.{_≡_, refl, sym, ap, ap₂, _∙_}
-use mathlib.Core.Bool.{Bool, false}
+use mathlib.Core.Bool.{false}
 use Prim.Native.Nat.{ℕ, zero, suc, _+_}
 use native.Mathlib.Omega.{arith}
 use borrow.Author.Tests.{lt-leb, lt-ltb}
 use Rattle.prediction.specs.declared.Grid.{Grid}
 use Rattle.prediction.specs.declared.Surface.{Surface}
-use Rattle.picture.specs.Pictures.{codes, gridIn, pictureIn, fits, pictureTable}
-use Rattle.picture.specs.Surfaces.{frameIn, surfaceIn, surfaceTable}
+use Rattle.picture.specs.Pictures.{codes, gridIn, pictureIn, fits}
+use Rattle.picture.specs.Surfaces.{frameIn, surfaceIn}
 use Rattle.picture.specs.declared.Frame.{Frame}
 use Rattle.picture.specs.declared.Picture.{Picture}
 
@@ -26,10 +26,6 @@ same-frame {w} {h} {p} {c} {w′} {h′} {p′} {c′} ew eh ep ec = ap₂ (λ (
 
 pub same-surface-words : {a b c a′ b′ c′ : ℕ} → a ≡ a′ → b ≡ b′ → c ≡ c′ → frameIn a (surfaceIn b c) ≡ frameIn a′ (surfaceIn b′ c′)
 same-surface-words {a} {b} {c} {a′} {b′} {c′} ea eb ec = ap (λ (x : ℕ). frameIn x (surfaceIn b c)) ea ∙ ap₂ (λ (x y : ℕ). frameIn a′ (surfaceIn x y)) eb ec
-
-pub same-surface-rules : {a b c d e a′ b′ c′ d′ e′ : Bool} → a ≡ a′ → b ≡ b′ → c ≡ c′ → d ≡ d′ → e ≡ e′ → surfaceTable a b c d e ≡ surfaceTable a′ b′ c′ d′ e′
-same-surface-rules {a} {b} {c} {d} {e} {a′} {b′} {c′} {d′} {e′} ea eb ec ed ee =
-    ap₂ (λ (x y : Bool). surfaceTable x y c d e) ea eb ∙ ap₂ (λ (x y : Bool). surfaceTable a′ b′ x y e) ec ed ∙ ap (surfaceTable a′ b′ c′ d′) ee
 
 abbrev gridMade : ℕ → ℕ → Grid
 gridMade w h = record { columns = w; rows = h }
@@ -54,9 +50,6 @@ same-picture {t} {fx} {fy} {bx} {by} {w} {h} {t′} {fx′} {fy′} {bx′} {by�
 
 pub same-picture-words : {a b c a′ b′ c′ : ℕ} → a ≡ a′ → b ≡ b′ → c ≡ c′ → pictureIn a b (gridIn c) ≡ pictureIn a′ b′ (gridIn c′)
 same-picture-words {a} {b} {c} {a′} {b′} {c′} ea eb ec = ap₂ (λ (x y : ℕ). pictureIn x y (gridIn c)) ea eb ∙ ap (λ (x : ℕ). pictureIn a′ b′ (gridIn x)) ec
-
-pub same-picture-rules : {a b c a′ b′ c′ : Bool} → a ≡ a′ → b ≡ b′ → c ≡ c′ → pictureTable a b c ≡ pictureTable a′ b′ c′
-same-picture-rules {a} {b} {c} {a′} {b′} {c′} ea eb ec = ap₂ (λ (x y : Bool). pictureTable x y c) ea eb ∙ ap (pictureTable a′ b′) ec
 
 -- no macroblocks cover no samples
 pub none-fit : (s n : ℕ) → n ≡ 0 → false ≡ fits s n

@@ -6,7 +6,7 @@ use picture::Picture;
 use prediction::Grid;
 ghost use mathlib.Core.Path.{_≡_};
 ghost use Rattle.answers.specs.Answers.{judged};
-ghost use Rattle.picture.specs.Pictures.{pictureOf, codeInUse, inUse, unused, codesPermitted, fits, sizePermitted, pictureBits1, pictureTable, pictureRules};
+ghost use Rattle.picture.specs.Pictures.{pictureOf, codeInUse, inUse, unused, codesPermitted, fits, sizePermitted, pictureBits1, pictureRules};
 
 // What a command's words say, legal or not.
 pub fn picture_of(words: &[u32]) -> Picture
@@ -101,22 +101,6 @@ fn size_permitted(frame: Frame, grid: Grid) -> bool
     (grid.rows <= 175) & (covered & room)
 }
 
-// The first rule that is broken, from whether each is kept.
-fn picture_broken(bits1: bool, typed: bool, size: bool) -> Answer
-    ensures { λ r. ⌜ r ≡ judged (pictureTable bits1 typed size) ⌝ }
-{
-    if !bits1 {
-        return Answer::Refused(4, 1);
-    }
-    if !typed {
-        return Answer::Refused(5, 2);
-    }
-    if !size {
-        return Answer::Refused(5, 3);
-    }
-    Answer::Accepted
-}
-
 // The first rule that a PICTURE command breaks on its surface, with its word as the place.
 pub fn picture_fault(frame: Frame, words: &[u32]) -> Answer
     ensures { λ r. ⌜ r ≡ judged (pictureRules frame (now (words .entry))) ⌝ }
@@ -127,6 +111,7 @@ pub fn picture_fault(frame: Frame, words: &[u32]) -> Answer
     let grid = picture.grid;
     let bits1 = picture_bits1(headers_code::word_at(words, 1));
     let typed = codes_permitted(picture.coding, forward, backward);
-    let size = size_permitted(frame, grid);
-    picture_broken(bits1, typed, size)
+    let a = answers_code::unless(Answer::Accepted, 4, 1, bits1);
+    let a = answers_code::unless(a, 5, 2, typed);
+    answers_code::unless(a, 5, 3, size_permitted(frame, grid))
 }

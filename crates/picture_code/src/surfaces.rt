@@ -4,7 +4,7 @@ use picture::Frame;
 use prediction::Surface;
 ghost use mathlib.Core.Path.{_≡_};
 ghost use Rattle.answers.specs.Answers.{judged};
-ghost use Rattle.picture.specs.Surfaces.{surfaceOf, surfaceBits3, surfaceTable, surfaceRules};
+ghost use Rattle.picture.specs.Surfaces.{surfaceOf, surfaceBits3, surfaceRules};
 
 // What a command's words say, legal or not.
 pub fn surface_of(words: &[u32]) -> Frame
@@ -33,28 +33,6 @@ fn surface_bits3(three: u32) -> bool
     upper & (fields_code::has_bits(three, 26, 20, 0) & lower)
 }
 
-// The first rule that is broken, from whether each is kept.
-fn surface_broken(bits1: bool, bits2: bool, bits3: bool, pitch: bool, bits4: bool) -> Answer
-    ensures { λ r. ⌜ r ≡ judged (surfaceTable bits1 bits2 bits3 pitch bits4) ⌝ }
-{
-    if !bits1 {
-        return Answer::Refused(4, 1);
-    }
-    if !bits2 {
-        return Answer::Refused(4, 2);
-    }
-    if !bits3 {
-        return Answer::Refused(4, 3);
-    }
-    if !pitch {
-        return Answer::Refused(5, 3);
-    }
-    if !bits4 {
-        return Answer::Refused(4, 4);
-    }
-    Answer::Accepted
-}
-
 // The first rule that a SURFACE command breaks, with its word as the place.
 pub fn surface_fault(words: &[u32]) -> Answer
     ensures { λ r. ⌜ r ≡ judged (surfaceRules (now (words .entry))) ⌝ }
@@ -63,7 +41,10 @@ pub fn surface_fault(words: &[u32]) -> Answer
     let bits1 = headers_code::word_at(words, 1) == 0;
     let bits2 = fields_code::has_bits(headers_code::word_at(words, 2), 3, 0, 0);
     let bits3 = surface_bits3(headers_code::word_at(words, 3));
-    let pitch = frame.surface.pitch % 128 == 0;
     let bits4 = fields_code::has_bits(headers_code::word_at(words, 4), 31, 15, 0);
-    surface_broken(bits1, bits2, bits3, pitch, bits4)
+    let a = answers_code::unless(Answer::Accepted, 4, 1, bits1);
+    let a = answers_code::unless(a, 4, 2, bits2);
+    let a = answers_code::unless(a, 4, 3, bits3);
+    let a = answers_code::unless(a, 5, 3, frame.surface.pitch % 128 == 0);
+    answers_code::unless(a, 4, 4, bits4)
 }

@@ -8,28 +8,26 @@ use Rattle.lists.proofs.Booleans.{and-right}
 use Rattle.answers.specs.Answers.{earlier, judged}
 use Rattle.answers.specs.declared.Answer.{Answer}
 use Rattle.answers.specs.declared.Answer.the-variants.{Accepted}
-use Rattle.answers.proofs.Judging.{judged-append, all-hold, none-broken, hold-each, within, within-both}
+use Rattle.answers.proofs.Judging.{judged-append, both-accept, rule-kept, within, within-both}
 use Rattle.macroblock.specs.Macroblocks.{macroblockOf}
 use Rattle.macroblock.specs.Rules.{commandRules}
 use Rattle.macroblock.specs.declared.Macroblock.{Macroblock}
 use Rattle.macroblock.proofs.CommandLaws.{command-within}
 use Rattle.progress.specs.declared.Progress.{Progress}
 use Rattle.placement.specs.Blocks.{blocksOf}
-use Rattle.placement.specs.Placing.{placedBy, placedRules, macroblockRules}
+use Rattle.placement.specs.Placing.{placedRules, macroblockRules}
 use Rattle.placement.specs.Progressing.{progressAfter, macroblockNext}
 use Rattle.placement.specs.declared.Blocks.{Blocks}
-use Rattle.placement.specs.declared.Placed.{Placed}
 
 -- the answer, from the answers to the two tables
-pub judged-whole : (p : Progress) (ws : List ℕ) {m : Macroblock} {b : Blocks} {r : Placed} {a d f : Answer} → m ≡ macroblockOf ws
-    → b ≡ blocksOf p (m .case) → r ≡ placedBy p b m ws → a ≡ judged (placedRules r) → d ≡ judged (commandRules ws) → f ≡ earlier a d
+pub judged-whole : (p : Progress) (ws : List ℕ) {m : Macroblock} {b : Blocks} {a d f : Answer} → m ≡ macroblockOf ws
+    → b ≡ blocksOf p (m .case) → a ≡ judged (placedRules p b m ws) → d ≡ judged (commandRules ws) → f ≡ earlier a d
     → f ≡ judged (macroblockRules p ws)
 unfolding macroblockRules
-judged-whole p ws {m} {b} {r} em eb er ea ed ef =
-    let b' = blocksOf p (macroblockOf ws .case) in
-    let is : r ≡ placedBy p b' (macroblockOf ws) ws = er ∙ simp (eb, em) in
-    ef ∙ ap₂ earlier (ea ∙ ap (λ (x : Placed). judged (placedRules x)) is) ed
-    ∙ sym (judged-append (placedRules (placedBy p b' (macroblockOf ws) ws)) (commandRules ws))
+judged-whole p ws {m} {b} em eb ea ed ef =
+    let placed = placedRules p (blocksOf p (macroblockOf ws .case)) (macroblockOf ws) ws in
+    let same : placedRules p b m ws ≡ placed = simp (eb, em) in
+    ef ∙ ap₂ earlier (ea ∙ ap judged same) ed ∙ sym (judged-append placed (commandRules ws))
 
 -- the progress after it
 pub next-whole : (p : Progress) (ws : List ℕ) {m : Macroblock} {b : Blocks} {n : Progress} → m ≡ macroblockOf ws
@@ -39,19 +37,17 @@ next-whole p ws em eb en = en ∙ simp (eb, em)
 
 -- A macroblock that is accepted comes before the picture is full.
 pub row-left : (p : Progress) (ws : List ℕ) → judged (macroblockRules p ws) ≡ Accepted → p .position .row < p .picture .grid .rows
-unfolding macroblockRules placedRules placedBy
+unfolding macroblockRules placedRules
 row-left p ws e =
     let g = p .stage .«in_group» in
-    ltb-true (p .position .row) (p .picture .grid .rows) (and-right g (ltb (p .position .row) (p .picture .grid .rows)) (all-hold (macroblockRules p ws) e .0))
+    ltb-true (p .position .row) (p .picture .grid .rows) (and-right g (ltb (p .position .row) (p .picture .grid .rows)) (rule-kept 3 0 (macroblockRules p ws) e))
 
 -- A macroblock that is accepted keeps the rules of a command read alone.
 pub alone-kept : (p : Progress) (ws : List ℕ) → judged (macroblockRules p ws) ≡ Accepted → judged (commandRules ws) ≡ Accepted
 unfolding macroblockRules
-alone-kept p ws e =
-    let placed = placedRules (placedBy p (blocksOf p (macroblockOf ws .case)) (macroblockOf ws) ws) in
-    none-broken (commandRules ws) (hold-each placed (commandRules ws) (all-hold (macroblockRules p ws) e) .1)
+alone-kept p ws e = both-accept (placedRules p (blocksOf p (macroblockOf ws .case)) (macroblockOf ws) ws) (commandRules ws) e .1
 
 -- The rules refuse with numbers 1 to 12, at words 0 to 8.
 pub macroblock-within : (p : Progress) (ws : List ℕ) → T (within 12 8 (macroblockRules p ws))
 unfolding macroblockRules placedRules
-macroblock-within p ws = within-both 12 8 (placedRules (placedBy p (blocksOf p (macroblockOf ws .case)) (macroblockOf ws) ws)) (commandRules ws) tt (command-within ws)
+macroblock-within p ws = within-both 12 8 (placedRules p (blocksOf p (macroblockOf ws .case)) (macroblockOf ws) ws) (commandRules ws) tt (command-within ws)

@@ -12,12 +12,12 @@ use lib.Dec.{eqb, ltb}
 use Rattle.lists.proofs.Booleans.{and-left, and-right}
 use Rattle.answers.specs.Answers.{judged}
 use Rattle.answers.specs.declared.Answer.the-variants.{Accepted}
-use Rattle.answers.proofs.Judging.{all-hold}
+use Rattle.answers.proofs.Judging.{rule-kept}
 use Rattle.prediction.specs.declared.Grid.{Grid}
 use Rattle.prediction.specs.declared.Position.{Position}
 use Rattle.macroblock.specs.Macroblocks.{macroblockOf}
 use Rattle.progress.specs.declared.Progress.{Progress}
-use Rattle.placement.specs.Placing.{placedBy, placedRules, macroblockRules}
+use Rattle.placement.specs.Placing.{placedRules, macroblockRules}
 use Rattle.placement.specs.Progressing.{positionAfter, countBefore, stageAfter, progressAfter, macroblockNext}
 
 -- The next position is in its row, and one more macroblock comes before it.
@@ -63,16 +63,16 @@ position-of w at h = (digits-mod (at .row) h, digits-div (at .row) h)
 
 -- A macroblock that is accepted stands in an open group and says its own position.
 pub in-group : (p : Progress) (ws : List ℕ) → judged (macroblockRules p ws) ≡ Accepted → p .stage .«in_group» ≡ true
-unfolding macroblockRules placedRules placedBy
-in-group p ws e = and-left (p .stage .«in_group») (ltb (p .position .row) (p .picture .grid .rows)) (all-hold (macroblockRules p ws) e .0)
+unfolding macroblockRules placedRules
+in-group p ws e = and-left (p .stage .«in_group») (ltb (p .position .row) (p .picture .grid .rows)) (rule-kept 3 0 (macroblockRules p ws) e)
 
 pub own-position : (p : Progress) (ws : List ℕ) → judged (macroblockRules p ws) ≡ Accepted
     → (macroblockOf ws .column ≡ p .position .column) × (macroblockOf ws .row ≡ p .position .row)
-unfolding macroblockRules placedRules placedBy
+unfolding macroblockRules placedRules
 own-position p ws e =
     let m = macroblockOf ws in
     let a = p .position in
-    let h = all-hold (macroblockRules p ws) e .1 .1 .1 .0 in
+    let h = rule-kept 6 2 (macroblockRules p ws) e in
     let c = eqb (m .column) (a .column) in
     let r = eqb (m .row) (a .row) in
     (eqb-true (m .column) (a .column) (and-left c r h), eqb-true (m .row) (a .row) (and-right c r h))

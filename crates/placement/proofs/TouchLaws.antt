@@ -18,13 +18,13 @@ use Rattle.prediction.proofs.BlockLaws.{block-exact, own-inside}
 use Rattle.prediction.proofs.ExtentLaws.{empty-exact, join-exact}
 use Rattle.answers.specs.Answers.{judged}
 use Rattle.answers.specs.declared.Answer.the-variants.{Accepted}
-use Rattle.answers.proofs.Judging.{all-hold}
+use Rattle.answers.proofs.Judging.{rule-kept}
 use Rattle.macroblock.specs.Macroblocks.{macroblockOf}
 use Rattle.picture.specs.declared.Codes.{Codes}
 use Rattle.progress.specs.Buffers.{Buffer, source, reconstructed, forward, backward, extentOf}
 use Rattle.progress.specs.declared.Progress.{Progress}
 use Rattle.placement.specs.Blocks.{forwardOf, backwardOf, isInside, extentIn, predicted, blocksOf}
-use Rattle.placement.specs.Placing.{placedBy, placedRules, macroblockRules}
+use Rattle.placement.specs.Placing.{placedRules, macroblockRules}
 use Rattle.placement.specs.Progressing.{extentsAfter, progressAfter, macroblockNext}
 use Rattle.placement.specs.Touching.{referenceIn, TouchedBy}
 use Rattle.placement.specs.declared.Reference.{Reference}
@@ -57,7 +57,7 @@ pub next-exact : (p : Progress) (ws : List ℕ) → judged (macroblockRules p ws
     → 16 ≤ p .frame .surface .pitch → p .position .column < p .picture .grid .columns
     → (b : Buffer) {Before : ℕ → Type 0} → Exact Before (extentOf b (p .extents))
     → Exact (λ (byte : ℕ). Before byte ⊎ TouchedBy (p .frame .surface) (p .position) (referenceIn b (macroblockOf ws .case)) byte) (extentOf b (macroblockNext p ws .extents))
-unfolding macroblockRules placedRules placedBy macroblockNext progressAfter extentsAfter blocksOf
+unfolding macroblockRules placedRules macroblockNext progressAfter extentsAfter blocksOf
 next-exact p ws accepted wide in-row b before = by b before
   where
     s : Surface
@@ -73,8 +73,8 @@ next-exact p ws accepted wide in-row b before = by b before
     by forward before =
         join-exact before
         (predicted-exact s (p .picture .grid) (p .position) (p .picture .forward) (forwardOf (macroblockOf ws .case)) wide
-        (all-hold (macroblockRules p ws) accepted .1 .1 .1 .1 .1 .1 .1 .0))
+        (rule-kept 10 5 (macroblockRules p ws) accepted))
     by backward before =
         join-exact before
         (predicted-exact s (p .picture .grid) (p .position) (p .picture .backward) (backwardOf (macroblockOf ws .case)) wide
-        (all-hold (macroblockRules p ws) accepted .1 .1 .1 .1 .1 .1 .1 .1 .1 .0))
+        (rule-kept 10 6 (macroblockRules p ws) accepted))

@@ -17,7 +17,6 @@ use Rattle.progress.specs.declared.Progress.{Progress}
 use Rattle.progress.specs.declared.Stage.{Stage}
 use Rattle.placement.specs.Blocks.{blocksOf}
 use Rattle.placement.specs.declared.Blocks.{Blocks}
-use Rattle.placement.specs.declared.Placed.{Placed}
 
 -- "exactly when": both or neither.
 abbrev pub exactly : Bool → Bool → Bool
@@ -55,37 +54,27 @@ flagsAgree s g at f =
     (exactly (f .«first_in_slice») (not (s .«in_slice»)) && (not (eqb (at .column + 1) (g .columns)) || f .«last_in_slice»))
     && (exactly (f .«first_in_group») (s .«group_start») && (not (f .«last_in_group») || f .«last_in_slice»))
 
--- Which rules hold of a macroblock with these blocks.
-unfoldable pub placedBy : Progress → Blocks → Macroblock → List ℕ → Placed
-placedBy p b m ws =
-    record {
-      sequence = inSequence (p .stage) (p .picture .grid) (p .position);
-      coding = codingPermits (p .picture .coding) (motionOf (m .case) .kind);
-      skip = not (m .skip) || skipPermitted (p .picture .coding) (p .previous) (motionOf (m .case) .kind) ws;
-      position = atPosition (p .position) m;
-      -- "25 no skip conversion (zero in I)"
-      conversion = not (eqb (p .picture .coding) 1) || not (m .flags .«no_skip_conversion»);
-      flags = flagsAgree (p .stage) (p .picture .grid) (p .position) (m .flags);
-      forward = b .forward;
-      backward = b .backward;
-    }
+-- "25 no skip conversion (zero in I)"
+abbrev pub conversionPermitted : ℕ → Flags → Bool
+conversionPermitted coding f = not (eqb coding 1) || not (f .«no_skip_conversion»)
 
--- The table: number, word, and whether the rule holds. "3 out of sequence: header"; "6 wrong position: word 2"; "7 slice or group
--- flag: word 4"; "9 vector beyond f code: word 5 or 6"; "10 luma block outside picture: word 5 or 6"; "11 skip rule: word 1".
-unfoldable pub placedRules : Placed → List Rule
-placedRules r =
-    rule 3 0 (r .sequence)
-    ∷ rule 5 1 (r .coding)
-    ∷ rule 11 1 (r .skip)
-    ∷ rule 6 2 (r .position)
-    ∷ rule 5 4 (r .conversion)
-    ∷ rule 7 4 (r .flags)
-    ∷ rule 9 5 (r .forward .«in_range»)
-    ∷ rule 10 5 (r .forward .inside)
-    ∷ rule 9 6 (r .backward .«in_range»)
-    ∷ rule 10 6 (r .backward .inside)
+-- The table, of a macroblock with these blocks: number, word, and whether the rule holds. "3 out of sequence: header"; "6 wrong
+-- position: word 2"; "7 slice or group flag: word 4"; "9 vector beyond f code: word 5 or 6"; "10 luma block outside picture: word 5
+-- or 6"; "11 skip rule: word 1".
+unfoldable pub placedRules : Progress → Blocks → Macroblock → List ℕ → List Rule
+placedRules p b m ws =
+    rule 3 0 (inSequence (p .stage) (p .picture .grid) (p .position))
+    ∷ rule 5 1 (codingPermits (p .picture .coding) (motionOf (m .case) .kind))
+    ∷ rule 11 1 (not (m .skip) || skipPermitted (p .picture .coding) (p .previous) (motionOf (m .case) .kind) ws)
+    ∷ rule 6 2 (atPosition (p .position) m)
+    ∷ rule 5 4 (conversionPermitted (p .picture .coding) (m .flags))
+    ∷ rule 7 4 (flagsAgree (p .stage) (p .picture .grid) (p .position) (m .flags))
+    ∷ rule 9 5 (b .forward .«in_range»)
+    ∷ rule 10 5 (b .forward .inside)
+    ∷ rule 9 6 (b .backward .«in_range»)
+    ∷ rule 10 6 (b .backward .inside)
     ∷ []
 
 -- All rules of a MACROBLOCK command: those of its picture and those that it keeps by itself, in the order of words and numbers.
 unfoldable pub macroblockRules : Progress → List ℕ → List Rule
-macroblockRules p ws = placedRules (placedBy p (blocksOf p (macroblockOf ws .case)) (macroblockOf ws) ws) ++ commandRules ws
+macroblockRules p ws = placedRules p (blocksOf p (macroblockOf ws .case)) (macroblockOf ws) ws ++ commandRules ws

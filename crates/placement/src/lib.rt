@@ -21,15 +21,3 @@ pub struct Blocks {
     pub forward: Predicted,
     pub backward: Predicted,
 }
-
-// Which rules of a macroblock in its picture hold.
-pub struct Placed {
-    pub sequence: bool,
-    pub coding: bool,
-    pub skip: bool,
-    pub position: bool,
-    pub conversion: bool,
-    pub flags: bool,
-    pub forward: Predicted,
-    pub backward: Predicted,
-}

@@ -18,9 +18,8 @@ pub fn judge_macroblock(progress: Progress, words: &[u32]) -> Verdict
     let macroblock = macroblock_code::macroblock_of(words);
     let case = macroblock.case;
     let blocks = touching::blocks_of(progress, case);
-    let placed = placing::placed_by(progress, blocks, macroblock, words);
     let fault = answers_code::earlier(
-        placing::placed_fault(placed),
+        placing::placed_fault(progress, blocks, macroblock, words),
         macroblock_code::fault_of(words),
     );
     if let Answer::Refused(number, word) = fault {

@@ -3,7 +3,6 @@ use answers::Answer;
 use macroblock::Flags;
 use macroblock::Macroblock;
 use placement::Blocks;
-use placement::Placed;
 use prediction::Grid;
 use prediction::Position;
 use progress::Previous;
@@ -11,7 +10,7 @@ use progress::Progress;
 use progress::Stage;
 ghost use mathlib.Core.Path.{_≡_};
 ghost use Rattle.answers.specs.Answers.{judged};
-ghost use Rattle.placement.specs.Placing.{exactly, codingPermits, zeroVectors, repeats, skipPermitted, flagsAgree, placedBy, placedRules};
+ghost use Rattle.placement.specs.Placing.{exactly, codingPermits, zeroVectors, repeats, skipPermitted, conversionPermitted, flagsAgree, placedRules};
 
 fn exactly(a: bool, b: bool) -> bool
     ensures { λ r. ⌜ r ≡ exactly a b ⌝ }
@@ -66,73 +65,45 @@ fn flags_agree(stage: Stage, grid: Grid, position: Position, flags: Flags) -> bo
     (slice_begins & slice_ends) & (group_begins & group_ends)
 }
 
-// Which rules hold of a macroblock with these blocks.
-pub(crate) fn placed_by(
+fn conversion_permitted(coding: u8, flags: Flags) -> bool
+    ensures { λ r. ⌜ r ≡ conversionPermitted coding flags ⌝ }
+{
+    !(coding == 1) | !flags.no_skip_conversion
+}
+
+// The first rule of its picture that a macroblock with these blocks breaks, with its word as the place.
+pub(crate) fn placed_fault(
     progress: Progress,
     blocks: Blocks,
     macroblock: Macroblock,
     words: &[u32],
-) -> Placed
-    ensures { λ r. ⌜ r ≡ placedBy progress blocks macroblock (now (words .entry)) ⌝ }
+) -> Answer
+    ensures { λ r. ⌜ r ≡ judged (placedRules progress blocks macroblock (now (words .entry))) ⌝ }
 {
+    let stage = progress.stage;
     let coding = progress.picture.coding;
     let grid = progress.picture.grid;
-    let position = progress.position;
+    let at = progress.position;
+    let previous = progress.previous;
     let case = macroblock.case;
+    let flags = macroblock.flags;
     let motion = macroblock_code::motion_of(case);
     let kind = motion.kind;
-    let stage = progress.stage;
-    let previous = progress.previous;
-    let forward = blocks.forward;
-    let backward = blocks.backward;
-    let flags = macroblock.flags;
-    let skip = skip_permitted(coding, previous, kind, words);
-    let agree = flags_agree(stage, grid, position, flags);
-    Placed {
-        sequence: stage.in_group & (position.row < grid.rows),
-        coding: coding_permits(coding, kind),
-        skip: !macroblock.skip | skip,
-        position: (macroblock.column == position.column) & (macroblock.row == position.row),
-        conversion: !(coding == 1) | !flags.no_skip_conversion,
-        flags: agree,
-        forward,
-        backward,
-    }
-}
-
-// The first of these rules that does not hold, with its word.
-pub(crate) fn placed_fault(placed: Placed) -> Answer
-    ensures { λ r. ⌜ r ≡ judged (placedRules placed) ⌝ }
-{
-    if !placed.sequence {
-        return Answer::Refused(3, 0);
-    }
-    if !placed.coding {
-        return Answer::Refused(5, 1);
-    }
-    if !placed.skip {
-        return Answer::Refused(11, 1);
-    }
-    if !placed.position {
-        return Answer::Refused(6, 2);
-    }
-    if !placed.conversion {
-        return Answer::Refused(5, 4);
-    }
-    if !placed.flags {
-        return Answer::Refused(7, 4);
-    }
-    if !placed.forward.in_range {
-        return Answer::Refused(9, 5);
-    }
-    if !placed.forward.inside {
-        return Answer::Refused(10, 5);
-    }
-    if !placed.backward.in_range {
-        return Answer::Refused(9, 6);
-    }
-    if !placed.backward.inside {
-        return Answer::Refused(10, 6);
-    }
-    Answer::Accepted
+    let skip = !macroblock.skip | skip_permitted(coding, previous, kind, words);
+    let here = (macroblock.column == at.column) & (macroblock.row == at.row);
+    let a = answers_code::unless(
+        Answer::Accepted,
+        3,
+        0,
+        stage.in_group & (at.row < grid.rows),
+    );
+    let a = answers_code::unless(a, 5, 1, coding_permits(coding, kind));
+    let a = answers_code::unless(a, 11, 1, skip);
+    let a = answers_code::unless(a, 6, 2, here);
+    let a = answers_code::unless(a, 5, 4, conversion_permitted(coding, flags));
+    let a = answers_code::unless(a, 7, 4, flags_agree(stage, grid, at, flags));
+    let a = answers_code::unless(a, 9, 5, blocks.forward.in_range);
+    let a = answers_code::unless(a, 10, 5, blocks.forward.inside);
+    let a = answers_code::unless(a, 9, 6, blocks.backward.in_range);
+    answers_code::unless(a, 10, 6, blocks.backward.inside)
 }

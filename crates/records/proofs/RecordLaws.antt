@@ -17,9 +17,9 @@ use Rattle.fields.proofs.LittleEndian.{Bytes, bytes-back, number-back}
 use Rattle.fields.proofs.Packing.{piece, packed-field, packed-is}
 use Rattle.prediction.specs.Vectors.{vectorOf}
 use Rattle.prediction.proofs.TwosComplement.{vector-word-back}
-use Rattle.answers.specs.Answers.{judged}
+use Rattle.answers.specs.Answers.{judged, holdsAt}
 use Rattle.answers.specs.declared.Answer.the-variants.{Accepted}
-use Rattle.answers.proofs.Judging.{Hold, all-hold, none-broken, hold-both, hold-each}
+use Rattle.answers.proofs.Judging.{Hold, all-hold, none-broken, hold-both, hold-each, both-accept, rule-kept}
 use Rattle.macroblock.specs.Cases.{motion, motionOf, caseOf}
 use Rattle.macroblock.specs.Legal.{Legal}
 use Rattle.macroblock.specs.Rules.{keptBy}
@@ -243,22 +243,26 @@ module _ (bs : List ℕ) (n : length bs ≡ 24) (h : Bytes bs) (k : judged (reco
   abbrev kept : Kept
   kept = keptBy (macroblockIn bs)
 
-  rules : Hold (byteRules bs kept) × Hold (zeroRules bs (valueAt kindPart bs))
+  rules : (judged (byteRules bs kept) ≡ Accepted) × (judged (zeroRules bs (valueAt kindPart bs)) ≡ Accepted)
   unfolding recordRules
-  rules = hold-each (byteRules bs kept) (zeroRules bs (valueAt kindPart bs)) (all-hold (recordRules bs) k)
+  rules = both-accept (byteRules bs kept) (zeroRules bs (valueAt kindPart bs)) k
+
+  -- the rule of a part
+  right : (p : Part) → holdsAt 15 (p .first) (byteRules bs kept) ≡ true
+  right p = rule-kept 15 (p .first) (byteRules bs kept) (rules .0)
 
   kind-right : valueAt kindPart bs ≤ 3
   unfolding byteRules
-  kind-right = leb-true (valueAt kindPart bs) 3 (rules .0 .0)
+  kind-right = leb-true (valueAt kindPart bs) 3 (right kindPart)
 
   skip-right : (leb (valueAt skipPart bs) 1 ≡ true) × (kept .«intra_not_skipped» ≡ true)
   unfolding byteRules
-  skip-right = let r = rules .0 .1 .0 in (and-left (leb (valueAt skipPart bs) 1) (kept .«intra_not_skipped») r, and-right (leb (valueAt skipPart bs) 1) (kept .«intra_not_skipped») r)
+  skip-right = let r = right skipPart in (and-left (leb (valueAt skipPart bs) 1) (kept .«intra_not_skipped») r, and-right (leb (valueAt skipPart bs) 1) (kept .«intra_not_skipped») r)
 
   pattern-right : (leb (valueAt patternPart bs) 63 ≡ true) × (kept .«intra_pattern» ≡ true) × (kept .«skip_pattern» ≡ true)
   unfolding byteRules
   pattern-right =
-      let r = rules .0 .1 .1 .0 in
+      let r = right patternPart in
       let s = and-right (leb (valueAt patternPart bs) 63) (kept .«intra_pattern» && kept .«skip_pattern») r in (
         and-left (leb (valueAt patternPart bs) 63) (kept .«intra_pattern» && kept .«skip_pattern») r,
         and-left (kept .«intra_pattern») (kept .«skip_pattern») s,
@@ -267,11 +271,11 @@ module _ (bs : List ℕ) (n : length bs ≡ 24) (h : Bytes bs) (k : judged (reco
 
   quantiser-right : kept .quantiser ≡ true
   unfolding byteRules
-  quantiser-right = rules .0 .1 .1 .1 .0
+  quantiser-right = right quantiserPart
 
   flags-right : (leb (valueAt flagsPart bs) 63 ≡ true) × (kept .«skip_inside_slice» ≡ true)
   unfolding byteRules
-  flags-right = let r = rules .0 .1 .1 .1 .1 .0 in (and-left (leb (valueAt flagsPart bs) 63) (kept .«skip_inside_slice») r, and-right (leb (valueAt flagsPart bs) 63) (kept .«skip_inside_slice») r)
+  flags-right = let r = right flagsPart in (and-left (leb (valueAt flagsPart bs) 63) (kept .«skip_inside_slice») r, and-right (leb (valueAt flagsPart bs) 63) (kept .«skip_inside_slice») r)
 
   part-lt : (p : Part) → valueAt p bs < 256 ^ length (elements bs (p .first) (p .count))
   part-lt p = number-lt (elements bs (p .first) (p .count)) (part-bytes bs h (p .first) (p .count))
@@ -300,7 +304,7 @@ module _ (bs : List ℕ) (n : length bs ≡ 24) (h : Bytes bs) (k : judged (reco
   unfolding zeroRules
   zeros =
       let kind = valueAt kindPart bs in
-      let a = hold-each (unusedPart false fillerPart bs) (unusedPart (hasForward kind) forwardPart bs ++ unusedPart (hasBackward kind) backwardPart bs) (rules .1) in
+      let a = hold-each (unusedPart false fillerPart bs) (unusedPart (hasForward kind) forwardPart bs ++ unusedPart (hasBackward kind) backwardPart bs) (all-hold (zeroRules bs kind) (rules .1)) in
       let b = hold-each (unusedPart (hasForward kind) forwardPart bs) (unusedPart (hasBackward kind) backwardPart bs) (a .1) in
       (hold-unused false fillerPart bs (a .0) refl, hold-unused (hasForward kind) forwardPart bs (b .0), hold-unused (hasBackward kind) backwardPart bs (b .1))
 

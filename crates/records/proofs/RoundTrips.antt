@@ -9,11 +9,11 @@ use lib.Dec.{eqb, ltb}
 use lib.ListN.{length, take, drop, replicate}
 use lib.Seq.{take-at}
 use Rattle.answers.proofs.LendingLaws.{writes}
-use Rattle.answers.specs.Lending.{lentAfter, next, roomFor}
+use Rattle.answers.specs.Lending.{lentAfter, roomFor}
 use Rattle.fields.specs.Bytes.{elements}
 use Rattle.fields.proofs.Elements.{elements-take}
 use Rattle.fields.proofs.LittleEndian.{Bytes}
-use Rattle.answers.specs.Answers.{judged}
+use Rattle.answers.specs.Answers.{judged, next}
 use Rattle.answers.specs.declared.Answer.{Answer}
 use Rattle.answers.specs.declared.Answer.the-variants.{Accepted, Refused}
 use Rattle.answers.proofs.Judging.{no-accepted}
@@ -22,7 +22,7 @@ use Rattle.headers.specs.Headers.{macroblockHeader}
 use Rattle.macroblock.specs.Legal.{Words, LegalCommand, Legal}
 use Rattle.headers.specs.Words.{wordAt}
 use Rattle.macroblock.specs.Macroblocks.{macroblockOf, wordsOf}
-use Rattle.macroblock.specs.Rules.{commandRules}
+use Rattle.macroblock.specs.Rules.{fieldRules, vectorRules, commandRules}
 use Rattle.macroblock.specs.declared.Macroblock.{Macroblock}
 use Rattle.macroblock.proofs.CaseLaws.{vectors-four}
 use Rattle.macroblock.proofs.CommandLaws.{macroblock-back, words-kept, word-below, macroblock-legal, words-back}
@@ -50,7 +50,7 @@ read-kept ws e = by (eqb (length ws) 0) (eqb (wordAt ws 0) macroblockHeader) (lt
 
 -- Its first nine words are a command, and no other word is looked at.
 first-nine : (ws : List ℕ) → Words ws → readFault ws ≡ Accepted → LegalCommand (elements ws 0 9)
-unfolding commandRules macroblockOf
+unfolding commandRules fieldRules vectorRules macroblockOf
 first-nine ws h e =
     let k = read-kept ws e in
     let b = word-below ws h in

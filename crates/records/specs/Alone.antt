@@ -5,7 +5,8 @@ use mathlib.Core.List.{List}
 use mathlib.Core.Path.{_≡_}
 use lib.Dec.{eqb, ltb}
 use lib.ListN.{length, replicate}
-use Rattle.answers.specs.Lending.{next, lentAfter, roomFor}
+use Rattle.answers.specs.Answers.{next}
+use Rattle.answers.specs.Lending.{lentAfter, roomFor}
 use Rattle.answers.specs.Answers.{judged}
 use Rattle.headers.specs.Headers.{macroblockHeader}
 use Rattle.macroblock.specs.Legal.{Words}

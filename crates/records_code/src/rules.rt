@@ -4,12 +4,10 @@ use crate::numbers;
 use answers::Answer;
 use macroblock::Kept;
 ghost use mathlib.Core.Path.{_≡_};
-ghost use mathlib.Core.List.{[], _∷_};
 ghost use Prim.Native.Nat.{_+_, _≤_};
-ghost use Rattle.answers.specs.Answers.{judged};
+ghost use Rattle.answers.specs.Answers.{rule, judged, unless};
 ghost use Rattle.records.specs.Alone.{recordFault};
-ghost use Rattle.records.specs.Layout.{kindPart, skipPart, patternPart, quantiserPart, flagsPart};
-ghost use Rattle.records.specs.RecordRules.{bad, zeroBytes, unusedBytes, byteRules, zeroRules, recordRules};
+ghost use Rattle.records.specs.RecordRules.{zeroBytes, unusedBytes, byteRules, zeroRules, recordRules};
 
 // The first of some bytes that is not zero.
 fn zero_fault(bytes: &[u8], at: usize, left: u8) -> Answer
@@ -35,28 +33,14 @@ fn unused_fault(bytes: &[u8], used: bool, at: usize, count: u8) -> Answer
     zero_fault(bytes, at, count)
 }
 
-// Bytes 6 to 12, from whether each is as it should be.
-fn first_of(kind: bool, skip: bool, pattern: bool, quantiser: bool, flags: bool) -> Answer
-    ensures { λ r. ⌜ r ≡ judged (bad kindPart kind ∷ bad skipPart skip ∷ bad patternPart pattern ∷ bad quantiserPart quantiser ∷ bad flagsPart flags ∷ []) ⌝ }
+// A rule of one part, behind an answer.
+fn unless_bad(answer: Answer, byte: usize, holds: bool) -> Answer
+    ensures { λ r. ⌜ r ≡ unless answer (rule 15 byte holds) ⌝ }
 {
-    if !kind {
-        return Answer::Refused(15, 6);
-    }
-    if !skip {
-        return Answer::Refused(15, 7);
-    }
-    if !pattern {
-        return Answer::Refused(15, 8);
-    }
-    if !quantiser {
-        return Answer::Refused(15, 11);
-    }
-    if !flags {
-        return Answer::Refused(15, 12);
-    }
-    Answer::Accepted
+    answers_code::unless(answer, 15, byte as u64, holds)
 }
 
+// Bytes 6 to 12.
 fn field_fault(bytes: &[u8], kept: Kept) -> Answer
     ensures { λ r. ⌜ r ≡ judged (byteRules (now (bytes .entry)) kept) ⌝ }
 {
@@ -65,7 +49,11 @@ fn field_fault(bytes: &[u8], kept: Kept) -> Answer
     let pattern = (numbers::number8_at(bytes, numbers::PATTERN) <= 63)
         & (kept.intra_pattern & kept.skip_pattern);
     let flags = (numbers::number8_at(bytes, numbers::FLAGS) <= 63) & kept.skip_inside_slice;
-    first_of(kind, skip, pattern, kept.quantiser, flags)
+    let a = unless_bad(Answer::Accepted, numbers::KIND, kind);
+    let a = unless_bad(a, numbers::SKIP, skip);
+    let a = unless_bad(a, numbers::PATTERN, pattern);
+    let a = unless_bad(a, numbers::QUANTISER, kept.quantiser);
+    unless_bad(a, numbers::FLAGS, flags)
 }
 
 fn zeros_fault(bytes: &[u8], kind: u8) -> Answer

@@ -21,7 +21,7 @@ use Rattle.macroblock.specs.Rules.{keptBy, typePermitted, fixed1, fixed3, fixed
 use Rattle.macroblock.proofs.CommandLaws.{bits-lt}
 use Rattle.placement.specs.Blocks.{forwardOf, backwardOf, predicted, blocksOf}
 use Rattle.placement.specs.Progressing.{previousOf}
-use Rattle.placement.specs.Placing.{exactly, inSequence, codingPermits, zeroVectors, repeats, skipPermitted, atPosition, flagsAgree, placedBy, placedRules, macroblockRules}
+use Rattle.placement.specs.Placing.{exactly, inSequence, codingPermits, zeroVectors, repeats, skipPermitted, atPosition, conversionPermitted, flagsAgree, placedRules, macroblockRules}
 use Rattle.prediction.specs.declared.Position.{Position}
 use Rattle.progress.specs.declared.Previous.{Previous}
 use Rattle.progress.specs.declared.Progress.{Progress}
@@ -156,7 +156,7 @@ pub record Keeps (q : Progress) (c : List ℕ) : Type 0 where
   pub coding : codingPermits (q .picture .coding) (motionOf (macroblockOf c .case) .kind) ≡ true
   pub skip : (not (macroblockOf c .skip) || skipPermitted (q .picture .coding) (q .previous) (motionOf (macroblockOf c .case) .kind) c) ≡ true
   pub position : atPosition (q .position) (macroblockOf c) ≡ true
-  pub conversion : (not (eqb (q .picture .coding) 1) || not (macroblockOf c .flags .«no_skip_conversion»)) ≡ true
+  pub conversion : conversionPermitted (q .picture .coding) (macroblockOf c .flags) ≡ true
   pub flags : flagsAgree (q .stage) (q .picture .grid) (q .position) (macroblockOf c .flags) ≡ true
   pub forward-range : blocksOf q (macroblockOf c .case) .forward .«in_range» ≡ true
   pub forward-inside : blocksOf q (macroblockOf c .case) .forward .inside ≡ true
@@ -175,7 +175,7 @@ pub record Keeps (q : Progress) (c : List ℕ) : Type 0 where
   pub eight : copied c 8 3 ≡ true
 
 pub accepted : (q : Progress) (c : List ℕ) → Keeps q c → judged (macroblockRules q c) ≡ Accepted
-unfolding macroblockRules placedRules placedBy commandRules fieldRules vectorRules
+unfolding macroblockRules placedRules commandRules fieldRules vectorRules
 accepted q c k =
     none-broken (macroblockRules q c)
     (k .sequence, (k .coding, (k .skip, (k .position, (k .conversion, (k .flags, (k .forward-range, (k .forward-inside, (k .backward-range, (k .backward-inside, (k .fixed-1, (k .typed, (k .skipped, (k .fixed-3, (k .intra-pattern, (k .fixed-4, (k .quantiser, (k .five, (k .six, (k .seven, (k .eight, tt)))))))))))))))))))))

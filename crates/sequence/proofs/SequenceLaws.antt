@@ -1,6 +1,6 @@
 -- What each command that is not refused leaves as it was, and what holds of every progress that commands lead to.
 use mathlib.Core.Bool.{true, false, cond, not, _&&_}
-use mathlib.Core.List.{List}
+use mathlib.Core.List.{List, [], _∷_}
 use mathlib.Core.Logic.{inl, ⊎-elim}
 use mathlib.Core.Path.{_≡_, refl, sym, ap, _∙_}
 use Prim.Native.Nat.{ℕ, _+_, _*_, _≤_, _<_}
@@ -10,9 +10,9 @@ use borrow.Author.Tests.{not-true, leb-true}
 use lib.Dec.{leb, ltb}
 use Rattle.lists.proofs.Booleans.{no, and-left, and-right}
 use Rattle.fields.specs.Word.{flag}
-use Rattle.answers.specs.Answers.{judged}
+use Rattle.answers.specs.Answers.{rule, judged}
 use Rattle.answers.specs.declared.Answer.the-variants.{Accepted}
-use Rattle.answers.proofs.Judging.{all-hold, none-broken}
+use Rattle.answers.proofs.Judging.{both-accept, rule-kept}
 use Rattle.headers.specs.Headers.{begins}
 use Rattle.headers.specs.declared.Header.{Header}
 use Rattle.headers.specs.declared.Header.the-variants.{Known, Carried, Unknown}
@@ -27,7 +27,7 @@ use Rattle.placement.specs.Placing.{macroblockRules}
 use Rattle.placement.specs.Progressing.{countBefore, macroblockNext}
 use Rattle.placement.proofs.MacroblockLaws.{row-left}
 use Rattle.placement.proofs.PositionLaws.{Reached, next-reached, Advances, advances, in-group, next-position}
-use Rattle.sequence.specs.Sequence.{surfaceNext, pictureNext, groupNext, endNext}
+use Rattle.sequence.specs.Sequence.{picturePermitted, surfaceNext, pictureNext, groupNext, endNext}
 use Rattle.sequence.specs.Judging.{rulesOf, nextOf, judge}
 
 -- What a command says of the surface and the picture: SURFACE and PICTURE their own, the others what was said before.
@@ -55,7 +55,7 @@ pub surface-once : (h : Header) (p : Progress) (ws : List ℕ) → judged (rules
 unfolding rulesOf
 surface-once (Known Noop n) p ws a s = refl
 surface-once (Known End n) p ws a s = refl
-surface-once (Known Surface n) p ws a s = absurd (no (sym (ap not s) ∙ all-hold (rulesOf (Known Surface n) p ws) a .0))
+surface-once (Known Surface n) p ws a s = absurd (no (sym (ap not s) ∙ rule-kept 3 0 (rulesOf (Known Surface n) p ws) a))
 surface-once (Known Picture n) p ws a s = refl
 surface-once (Known SliceGroup n) p ws a s = refl
 surface-once (Known Macroblock n) p ws a s = refl
@@ -68,7 +68,7 @@ picture-once (Known Noop n) p ws a s = refl
 picture-once (Known End n) p ws a s = refl
 picture-once (Known Surface n) p ws a s = refl
 picture-once (Known Picture n) p ws a s =
-    absurd (no (sym (ap not s) ∙ and-right (p .stage .surfaced) (not (p .stage .pictured)) (all-hold (rulesOf (Known Picture n) p ws) a .0)))
+    absurd (no (sym (ap not s) ∙ and-right (p .stage .surfaced) (not (p .stage .pictured)) (rule-kept 3 0 (rulesOf (Known Picture n) p ws) a)))
 picture-once (Known SliceGroup n) p ws a s = refl
 picture-once (Known Macroblock n) p ws a s = refl
 picture-once (Carried n) p ws a s = refl
@@ -120,7 +120,7 @@ sound-next (Known Noop n) p ws a s = (s, sym (add-zero (countOf p)))
 sound-next (Known End n) p ws a s =
     let g = p .picture .grid in
     let open-none = p .stage .pictured && not (p .stage .«in_group») in
-    let h = all-hold (rulesOf (Known End n) p ws) a .0 in
+    let h = rule-kept 3 0 (rulesOf (Known End n) p ws) a in
     let pictured = and-left (p .stage .pictured) (not (p .stage .«in_group»)) (and-left open-none (leb (g .rows) (p .position .row)) h) in
     let full = leb-true (g .rows) (p .position .row) (and-right open-none (leb (g .rows) (p .position .row)) h) in (
       record {
@@ -135,7 +135,7 @@ sound-next (Known End n) p ws a s =
       sym (add-zero (countOf p)),
     )
 sound-next (Known Surface n) p ws a s =
-    let not-yet = not-true (p .stage .surfaced) (all-hold (rulesOf (Known Surface n) p ws) a .0) in (
+    let not-yet = not-true (p .stage .surfaced) (rule-kept 3 0 (rulesOf (Known Surface n) p ws) a) in (
       record {
         group-pictured = s .group-pictured;
         pictured-surfaced = λ e. refl;
@@ -148,14 +148,14 @@ sound-next (Known Surface n) p ws a s =
       sym (add-zero (countOf p)),
     )
 sound-next (Known Picture n) p ws a s =
-    let h = all-hold (rulesOf (Known Picture n) p ws) a .0 in
+    let h = rule-kept 3 0 (rulesOf (Known Picture n) p ws) a in
     let surfaced = and-left (p .stage .surfaced) (not (p .stage .pictured)) h in
     let z = s .none-yet (not-true (p .stage .pictured) (and-right (p .stage .surfaced) (not (p .stage .pictured)) h)) in (
       record {
         group-pictured = λ e. refl;
         pictured-surfaced = λ e. surfaced;
         none-yet = λ e. z;
-        wide = λ e. wide (p .frame) ws (none-broken (pictureRules (p .frame) ws) (all-hold (rulesOf (Known Picture n) p ws) a .1));
+        wide = λ e. wide (p .frame) ws (both-accept (rule 3 0 (picturePermitted (p .stage)) ∷ []) (pictureRules (p .frame) ws) a .1);
         in-row = λ e. rw (z .0) (some-columns ws);
         reached = λ e. inl (rw (z .1) (some-rows ws));
         ended-full = λ e. absurd (no (sym (not-true (p .stage .pictured) (and-right (p .stage .surfaced) (not (p .stage .pictured)) h)) ∙ s .ended-full e .0));
@@ -164,7 +164,7 @@ sound-next (Known Picture n) p ws a s =
     )
 sound-next (Known SliceGroup n) p ws a s =
     let g = p .picture .grid in
-    let h = all-hold (rulesOf (Known SliceGroup n) p ws) a .0 in
+    let h = rule-kept 3 0 (rulesOf (Known SliceGroup n) p ws) a in
     let pictured = and-left (p .stage .pictured) (not (p .stage .«in_group»)) (and-left (p .stage .pictured && not (p .stage .«in_group»)) (ltb (p .position .row) (g .rows)) h) in (
       record {
         group-pictured = λ e. pictured;

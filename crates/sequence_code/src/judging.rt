@@ -15,10 +15,7 @@ ghost use Rattle.sequence.specs.Judging.{judge};
 fn sequence_fault(permitted: bool) -> Answer
     ensures { λ r. ⌜ r ≡ judged (rule 3 0 permitted ∷ []) ⌝ }
 {
-    if !permitted {
-        return Answer::Refused(3, 0);
-    }
-    Answer::Accepted
+    answers_code::unless(Answer::Accepted, 3, 0, permitted)
 }
 
 fn conclude(fault: Answer, next: Progress) -> Verdict

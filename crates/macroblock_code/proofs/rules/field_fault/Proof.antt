@@ -1,86 +1,89 @@
--- `field_fault`: words 1, 3 and 4, from whether each is as it should be.
-use mathlib.Core.Path.{sym, _∙_}
-use mathlib.Core.Bool.{_&&_}
-use borrow.Author.Tests.{not-true, not-false}
-use Rattle.answers.proofs.Judging.{in-order}
+-- `field_fault`: words 1, 3 and 4.
+use denote.Ref.{now}
+use Rattle.answers.proofs.Judging.{in-turn}
 use Rattle.macroblock.specs.Rules.{fieldRules}
+use borrow.Author.Needs.{needs}
 use Rattle.macroblock_code.proofs.rules.field_fault.Statement.{statement}
 use Rattle.macroblock_code.proofs.rules.field_fault.Tie as tie
 
+word-at-requires : tie.Need-word-at-requires
+word-at-requires c κs = search needs
+
+word-at-requires-2 : tie.Need-word-at-requires-2
+word-at-requires-2 c κs = search needs
+
+word-at-requires-3 : tie.Need-word-at-requires-3
+word-at-requires-3 c κs = search needs
+
+type-permitted-requires : tie.Need-type-permitted-requires
+type-permitted-requires c κs = search needs
+
+fixed1-requires : tie.Need-fixed1-requires
+fixed1-requires c κs = search needs
+
+unless-requires : tie.Need-unless-requires
+unless-requires c κs = search needs
+
+unless-requires-2 : tie.Need-unless-requires-2
+unless-requires-2 c κs = search needs
+
+unless-requires-3 : tie.Need-unless-requires-3
+unless-requires-3 c κs = search needs
+
+fixed3-requires : tie.Need-fixed3-requires
+fixed3-requires c κs = search needs
+
+unless-requires-4 : tie.Need-unless-requires-4
+unless-requires-4 c κs = search needs
+
+unless-requires-5 : tie.Need-unless-requires-5
+unless-requires-5 c κs = search needs
+
+fixed4-requires : tie.Need-fixed4-requires
+fixed4-requires c κs = search needs
+
+unless-requires-6 : tie.Need-unless-requires-6
+unless-requires-6 c κs = search needs
+
+unless-requires-7 : tie.Need-unless-requires-7
+unless-requires-7 c κs = search needs
+
 returns : tie.Need-returns
 unfolding fieldRules
-returns c = sym (in-order (fieldRules (c .before .before .before .args .bits1) (c .before .before .before .args .typed) (c .before .before .before .args .bits3) (c .before .before .before .args .bits4) (c .before .before .before .args .kept)) tt ∙ simp (not-true (c .before .before .before .args .bits1) (c .if1 .taken)))
-
-returns-2 : tie.Need-returns-2
-unfolding fieldRules
-returns-2 c = sym (in-order (fieldRules (c .before .before .before .before .args .bits1) (c .before .before .before .before .args .typed) (c .before .before .before .before .args .bits3) (c .before .before .before .before .args .bits4) (c .before .before .before .before .args .kept)) tt ∙ simp (
-  not-true (c .before .before .before .before .args .typed && c .before .before .before .before .args .kept .«intra_not_skipped») (c .if2 .taken),
-  not-false (c .before .before .before .before .args .bits1) (c .before .if1 .left),
-))
-
-returns-3 : tie.Need-returns-3
-unfolding fieldRules
-returns-3 c = sym (in-order (fieldRules (c .before .before .before .before .before .args .bits1) (c .before .before .before .before .before .args .typed) (c .before .before .before .before .before .args .bits3) (c .before .before .before .before .before .args .bits4) (c .before .before .before .before .before .args .kept)) tt ∙ simp (
-  not-true (c .before .before .before .before .before .args .kept .«skip_inside_slice» && c .before .before .before .before .before .args .kept .«skip_pattern») (c .if3 .taken),
-  not-false (c .before .before .before .before .before .args .typed && c .before .before .before .before .before .args .kept .«intra_not_skipped») (c .before .if2 .left),
-  not-false (c .before .before .before .before .before .args .bits1) (c .before .before .if1 .left),
-))
-
-returns-4 : tie.Need-returns-4
-unfolding fieldRules
-returns-4 c = sym (in-order (fieldRules (c .before .before .before .before .before .before .args .bits1) (c .before .before .before .before .before .before .args .typed) (c .before .before .before .before .before .before .args .bits3) (c .before .before .before .before .before .before .args .bits4) (c .before .before .before .before .before .before .args .kept)) tt ∙ simp (
-  not-true (c .before .before .before .before .before .before .args .bits3) (c .if4 .taken),
-  not-false (c .before .before .before .before .before .before .args .kept .«skip_inside_slice» && c .before .before .before .before .before .before .args .kept .«skip_pattern») (c .before .if3 .left),
-  not-false (c .before .before .before .before .before .before .args .typed && c .before .before .before .before .before .before .args .kept .«intra_not_skipped») (c .before .before .if2 .left),
-  not-false (c .before .before .before .before .before .before .args .bits1) (c .before .before .before .if1 .left),
-))
-
-returns-5 : tie.Need-returns-5
-unfolding fieldRules
-returns-5 c = sym (in-order (fieldRules (c .before .before .before .before .before .before .before .before .args .bits1) (c .before .before .before .before .before .before .before .before .args .typed) (c .before .before .before .before .before .before .before .before .args .bits3) (c .before .before .before .before .before .before .before .before .args .bits4) (c .before .before .before .before .before .before .before .before .args .kept)) tt ∙ simp (
-  not-true (c .before .before .before .before .before .before .before .before .args .kept .«intra_pattern») (c .if5 .taken),
-  not-false (c .before .before .before .before .before .before .before .before .args .bits3) (c .before .before .if4 .left),
-  not-false (c .before .before .before .before .before .before .before .before .args .kept .«skip_inside_slice» && c .before .before .before .before .before .before .before .before .args .kept .«skip_pattern») (c .before .before .before .if3 .left),
-  not-false (c .before .before .before .before .before .before .before .before .args .typed && c .before .before .before .before .before .before .before .before .args .kept .«intra_not_skipped») (c .before .before .before .before .if2 .left),
-  not-false (c .before .before .before .before .before .before .before .before .args .bits1) (c .before .before .before .before .before .if1 .left),
-))
-
-returns-6 : tie.Need-returns-6
-unfolding fieldRules
-returns-6 c = sym (in-order (fieldRules (c .before .before .before .before .before .before .before .before .before .args .bits1) (c .before .before .before .before .before .before .before .before .before .args .typed) (c .before .before .before .before .before .before .before .before .before .args .bits3) (c .before .before .before .before .before .before .before .before .before .args .bits4) (c .before .before .before .before .before .before .before .before .before .args .kept)) tt ∙ simp (
-  not-true (c .before .before .before .before .before .before .before .before .before .args .bits4) (c .if6 .taken),
-  not-false (c .before .before .before .before .before .before .before .before .before .args .kept .«intra_pattern») (c .before .if5 .left),
-  not-false (c .before .before .before .before .before .before .before .before .before .args .bits3) (c .before .before .before .if4 .left),
-  not-false (c .before .before .before .before .before .before .before .before .before .args .kept .«skip_inside_slice» && c .before .before .before .before .before .before .before .before .before .args .kept .«skip_pattern») (c .before .before .before .before .if3 .left),
-  not-false (c .before .before .before .before .before .before .before .before .before .args .typed && c .before .before .before .before .before .before .before .before .before .args .kept .«intra_not_skipped») (c .before .before .before .before .before .if2 .left),
-  not-false (c .before .before .before .before .before .before .before .before .before .args .bits1) (c .before .before .before .before .before .before .if1 .left),
-))
-
-returns-7 : tie.Need-returns-7
-unfolding fieldRules
-returns-7 c = sym (in-order (fieldRules (c .before .before .before .before .before .before .before .before .before .before .before .args .bits1) (c .before .before .before .before .before .before .before .before .before .before .before .args .typed) (c .before .before .before .before .before .before .before .before .before .before .before .args .bits3) (c .before .before .before .before .before .before .before .before .before .before .before .args .bits4) (c .before .before .before .before .before .before .before .before .before .before .before .args .kept)) tt ∙ simp (
-  not-true (c .before .before .before .before .before .before .before .before .before .before .before .args .kept .quantiser) (c .if7 .taken),
-  not-false (c .before .before .before .before .before .before .before .before .before .before .before .args .bits4) (c .before .before .if6 .left),
-  not-false (c .before .before .before .before .before .before .before .before .before .before .before .args .kept .«intra_pattern») (c .before .before .before .if5 .left),
-  not-false (c .before .before .before .before .before .before .before .before .before .before .before .args .bits3) (c .before .before .before .before .before .if4 .left),
-  not-false (c .before .before .before .before .before .before .before .before .before .before .before .args .kept .«skip_inside_slice» && c .before .before .before .before .before .before .before .before .before .before .before .args .kept .«skip_pattern») (c .before .before .before .before .before .before .if3 .left),
-  not-false (c .before .before .before .before .before .before .before .before .before .before .before .args .typed && c .before .before .before .before .before .before .before .before .before .before .before .args .kept .«intra_not_skipped») (c .before .before .before .before .before .before .before .if2 .left),
-  not-false (c .before .before .before .before .before .before .before .before .before .before .before .args .bits1) (c .before .before .before .before .before .before .before .before .if1 .left),
-))
-
-returns-8 : tie.Need-returns-8
-unfolding fieldRules
-returns-8 c = sym (in-order (fieldRules (c .before .before .before .before .before .before .before .before .before .before .before .args .bits1) (c .before .before .before .before .before .before .before .before .before .before .before .args .typed) (c .before .before .before .before .before .before .before .before .before .before .before .args .bits3) (c .before .before .before .before .before .before .before .before .before .before .before .args .bits4) (c .before .before .before .before .before .before .before .before .before .before .before .args .kept)) tt ∙ simp (
-  not-false (c .before .before .before .before .before .before .before .before .before .before .before .args .kept .quantiser) (c .if7 .left),
-  not-false (c .before .before .before .before .before .before .before .before .before .before .before .args .bits4) (c .before .before .if6 .left),
-  not-false (c .before .before .before .before .before .before .before .before .before .before .before .args .kept .«intra_pattern») (c .before .before .before .if5 .left),
-  not-false (c .before .before .before .before .before .before .before .before .before .before .before .args .bits3) (c .before .before .before .before .before .if4 .left),
-  not-false (c .before .before .before .before .before .before .before .before .before .before .before .args .kept .«skip_inside_slice» && c .before .before .before .before .before .before .before .before .before .before .before .args .kept .«skip_pattern») (c .before .before .before .before .before .before .if3 .left),
-  not-false (c .before .before .before .before .before .before .before .before .before .before .before .args .typed && c .before .before .before .before .before .before .before .before .before .before .before .args .kept .«intra_not_skipped») (c .before .before .before .before .before .before .before .if2 .left),
-  not-false (c .before .before .before .before .before .before .before .before .before .before .before .args .bits1) (c .before .before .before .before .before .before .before .before .if1 .left),
-))
+returns c =
+    rw (
+      c .unless7 .ensures,
+      c .before .unless6 .ensures,
+      c .before .before .fixed4 .ensures,
+      c .before .before .before .unless5 .ensures,
+      c .before .before .before .before .unless4 .ensures,
+      c .before .before .before .before .before .fixed3 .ensures,
+      c .before .before .before .before .before .before .unless3 .ensures,
+      c .before .before .before .before .before .before .before .unless2 .ensures,
+      c .before .before .before .before .before .before .before .before .unless .ensures,
+      c .before .before .before .before .before .before .before .before .before .fixed1 .ensures,
+      c .before .before .before .before .before .before .before .before .before .before .before .before .type-permitted .ensures,
+      c .before .before .before .before .before .before .before .before .before .before .before .before .before .word-at3 .ensures,
+      c .before .before .before .before .before .before .before .before .before .before .before .before .before .before .word-at2 .ensures,
+      c .before .before .before .before .before .before .before .before .before .before .before .before .before .before .before .word-at .ensures,
+    ) (in-turn (fieldRules (c .before .before .before .before .before .before .before .before .before .before .before .before .before .before .before .before .before .args .kept) (now (c .before .before .before .before .before .before .before .before .before .before .before .before .before .before .before .before .before .args .words))) tt)
 
 pub field-fault-spec : {M : Type 1} → statement M
 field-fault-spec =
     tie.close
-    (tie.spec returns returns-2 returns-3 returns-4 returns-5 returns-6 returns-7 returns-8)
+    (tie.spec
+    word-at-requires
+    word-at-requires-2
+    word-at-requires-3
+    type-permitted-requires
+    fixed1-requires
+    unless-requires
+    unless-requires-2
+    unless-requires-3
+    fixed3-requires
+    unless-requires-4
+    unless-requires-5
+    fixed4-requires
+    unless-requires-6
+    unless-requires-7
+    returns)

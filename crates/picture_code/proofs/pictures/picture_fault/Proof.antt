@@ -1,9 +1,7 @@
 -- `picture_fault`: the first rule that a PICTURE command breaks on its surface, with its word as the place.
-use mathlib.Core.Path.{ap, _∙_}
-use Rattle.answers.specs.Answers.{judged}
-use Rattle.picture.specs.Pictures.{pictureBits1, codesPermitted, sizePermitted, pictureRules}
-use Rattle.picture.specs.declared.Picture.{Picture}
-use Rattle.picture_code.proofs.Congruence.{same-picture-rules}
+use denote.Ref.{now}
+use Rattle.answers.proofs.Judging.{in-turn}
+use Rattle.picture.specs.Pictures.{pictureRules}
 use borrow.Author.Needs.{needs}
 use Rattle.picture_code.proofs.pictures.picture_fault.Statement.{statement}
 use Rattle.picture_code.proofs.pictures.picture_fault.Tie as tie
@@ -20,22 +18,31 @@ picture-bits1-requires c κs = search needs
 codes-permitted-requires : tie.Need-codes-permitted-requires
 codes-permitted-requires c κs = search needs
 
+unless-requires : tie.Need-unless-requires
+unless-requires c κs = search needs
+
+unless-requires-2 : tie.Need-unless-requires-2
+unless-requires-2 c κs = search needs
+
 size-permitted-requires : tie.Need-size-permitted-requires
 size-permitted-requires c κs = search needs
 
-picture-broken-requires : tie.Need-picture-broken-requires
-picture-broken-requires c κs = search needs
+unless-requires-3 : tie.Need-unless-requires-3
+unless-requires-3 c κs = search needs
 
 returns : tie.Need-returns
 unfolding pictureRules
 returns c =
-    let read = c .before .before .before .before .before .before .before .before .picture-of .ensures in
-    c .picture-broken .ensures
-    ∙ ap judged
-    (same-picture-rules
-    (c .before .before .before .picture-bits1 .ensures ∙ ap pictureBits1 (c .before .before .before .before .word-at .ensures))
-    (c .before .before .codes-permitted .ensures ∙ ap (λ (p : Picture). codesPermitted (p .coding) (p .forward) (p .backward)) read)
-    (c .before .size-permitted .ensures ∙ ap (λ (p : Picture). sizePermitted (c .before .before .before .before .before .before .before .before .before .before .args .frame) (p .grid)) read))
+    rw (
+      c .unless3 .ensures,
+      c .before .size-permitted .ensures,
+      c .before .before .unless2 .ensures,
+      c .before .before .before .unless .ensures,
+      c .before .before .before .before .codes-permitted .ensures,
+      c .before .before .before .before .before .picture-bits1 .ensures,
+      c .before .before .before .before .before .before .word-at .ensures,
+      c .before .before .before .before .before .before .before .before .before .before .picture-of .ensures,
+    ) (in-turn (pictureRules (c .before .before .before .before .before .before .before .before .before .before .before .before .args .frame) (now (c .before .before .before .before .before .before .before .before .before .before .before .before .args .words))) tt)
 
 pub picture-fault-spec : {M : Type 1} → statement M
 picture-fault-spec =
@@ -45,6 +52,8 @@ picture-fault-spec =
     word-at-requires
     picture-bits1-requires
     codes-permitted-requires
+    unless-requires
+    unless-requires-2
     size-permitted-requires
-    picture-broken-requires
+    unless-requires-3
     returns)

@@ -1,8 +1,7 @@
 -- `surface_fault`: the first rule that a SURFACE command breaks, with its word as the place.
-use mathlib.Core.Path.{ap, _∙_}
-use Rattle.answers.specs.Answers.{judged}
-use Rattle.picture.specs.Surfaces.{surfaceBits1, surfaceBits2, surfaceBits3, surfaceBits4, pitchPermitted, surfaceRules}
-use Rattle.picture_code.proofs.Congruence.{same-surface-rules}
+use denote.Ref.{now}
+use Rattle.answers.proofs.Judging.{in-turn}
+use Rattle.picture.specs.Surfaces.{surfaceRules}
 use borrow.Author.Needs.{needs}
 use Rattle.picture_code.proofs.surfaces.surface_fault.Statement.{statement}
 use Rattle.picture_code.proofs.surfaces.surface_fault.Tie as tie
@@ -31,20 +30,39 @@ word-at-requires-4 c κs = search needs
 has-bits-requires-2 : tie.Need-has-bits-requires-2
 has-bits-requires-2 c κs = search needs
 
-surface-broken-requires : tie.Need-surface-broken-requires
-surface-broken-requires c κs = search needs
+unless-requires : tie.Need-unless-requires
+unless-requires c κs = search needs
+
+unless-requires-2 : tie.Need-unless-requires-2
+unless-requires-2 c κs = search needs
+
+unless-requires-3 : tie.Need-unless-requires-3
+unless-requires-3 c κs = search needs
+
+unless-requires-4 : tie.Need-unless-requires-4
+unless-requires-4 c κs = search needs
+
+unless-requires-5 : tie.Need-unless-requires-5
+unless-requires-5 c κs = search needs
 
 returns : tie.Need-returns
 unfolding surfaceRules
 returns c =
-    c .surface-broken .ensures
-    ∙ ap judged
-    (same-surface-rules
-    (ap surfaceBits1 (c .before .before .before .before .before .before .before .before .word-at .ensures))
-    (c .before .before .before .before .before .before .has-bits .ensures ∙ ap surfaceBits2 (c .before .before .before .before .before .before .before .word-at2 .ensures))
-    (c .before .before .before .before .surface-bits3 .ensures ∙ ap surfaceBits3 (c .before .before .before .before .before .word-at3 .ensures))
-    (ap pitchPermitted (c .before .before .before .before .before .before .before .before .before .surface-of .ensures))
-    (c .before .has-bits2 .ensures ∙ ap surfaceBits4 (c .before .before .word-at4 .ensures)))
+    rw (
+      c .unless5 .ensures,
+      c .before .unless4 .ensures,
+      c .before .before .before .unless3 .ensures,
+      c .before .before .before .before .unless2 .ensures,
+      c .before .before .before .before .before .unless .ensures,
+      c .before .before .before .before .before .before .has-bits2 .ensures,
+      c .before .before .before .before .before .before .before .word-at4 .ensures,
+      c .before .before .before .before .before .before .before .before .surface-bits3 .ensures,
+      c .before .before .before .before .before .before .before .before .before .word-at3 .ensures,
+      c .before .before .before .before .before .before .before .before .before .before .has-bits .ensures,
+      c .before .before .before .before .before .before .before .before .before .before .before .word-at2 .ensures,
+      c .before .before .before .before .before .before .before .before .before .before .before .before .word-at .ensures,
+      c .before .before .before .before .before .before .before .before .before .before .before .before .before .surface-of .ensures,
+    ) (in-turn (surfaceRules (now (c .before .before .before .before .before .before .before .before .before .before .before .before .before .before .before .args .words))) tt)
 
 pub surface-fault-spec : {M : Type 1} → statement M
 surface-fault-spec =
@@ -58,5 +76,9 @@ surface-fault-spec =
     surface-bits3-requires
     word-at-requires-4
     has-bits-requires-2
-    surface-broken-requires
+    unless-requires
+    unless-requires-2
+    unless-requires-3
+    unless-requires-4
+    unless-requires-5
     returns)

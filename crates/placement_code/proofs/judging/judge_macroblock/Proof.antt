@@ -12,13 +12,12 @@ use borrow.Author.Needs.{needs}
 use Rattle.placement_code.proofs.judging.judge_macroblock.Statement.{statement}
 use Rattle.placement_code.proofs.judging.judge_macroblock.Tie as tie
 
-fault-is : (c : tie.After-earlier) → c .earlier .result ≡ judged (macroblockRules (c .before .before .before .before .before .before .before .args .progress) (now (c .before .before .before .before .before .before .before .args .words)))
+fault-is : (c : tie.After-earlier) → c .earlier .result ≡ judged (macroblockRules (c .before .before .before .before .before .before .args .progress) (now (c .before .before .before .before .before .before .args .words)))
 fault-is c =
-    let s = c .before .before .before .before .before .before .before in
+    let s = c .before .before .before .before .before .before in
     judged-whole (s .args .progress) (now (s .args .words))
-    (c .before .before .before .before .before .macroblock-of .ensures)
-    (c .before .before .before .before .blocks-of .ensures)
-    (c .before .before .before .placed-by .ensures)
+    (c .before .before .before .before .macroblock-of .ensures)
+    (c .before .before .before .blocks-of .ensures)
     (c .before .before .placed-fault .ensures)
     (c .before .fault-of .ensures)
     (c .earlier .ensures)
@@ -28,9 +27,6 @@ macroblock-of-requires c κs = search needs
 
 blocks-of-requires : tie.Need-blocks-of-requires
 blocks-of-requires c κs = search needs
-
-placed-by-requires : tie.Need-placed-by-requires
-placed-by-requires c κs = search needs
 
 placed-fault-requires : tie.Need-placed-fault-requires
 placed-fault-requires c κs = search needs
@@ -47,7 +43,7 @@ enum-known-fault c = search needs
 returns : tie.Need-returns
 returns c =
     let e = c .before .before .before in
-    let s = e .before .before .before .before .before .before .before in
+    let s = e .before .before .before .before .before .before in
     ap (λ (a : Answer). concluded a (macroblockNext (s .args .progress) (now (s .args .words)))) (sym (c .before .fault .given .1) ∙ fault-is e)
 
 enum-told : tie.Need-enum-told
@@ -56,16 +52,16 @@ enum-told c = search needs
 progress-after-requires : tie.Need-progress-after-requires
 progress-after-requires c κs =
     let e = c .before .before in
-    let s = e .before .before .before .before .before .before .before in
+    let s = e .before .before .before .before .before .before in
     row-left (s .args .progress) (now (s .args .words)) (sym (fault-is e) ∙ c .enum-told .given .1)
 
 returns-2 : tie.Need-returns-2
 returns-2 c =
     let e = c .before .before .before in
-    let s = e .before .before .before .before .before .before .before in
+    let s = e .before .before .before .before .before .before in
     ap Next (next-whole (s .args .progress) (now (s .args .words))
-    (e .before .before .before .before .before .macroblock-of .ensures)
-    (e .before .before .before .before .blocks-of .ensures)
+    (e .before .before .before .before .macroblock-of .ensures)
+    (e .before .before .before .blocks-of .ensures)
     (c .progress-after .ensures))
     ∙ ap (λ (a : Answer). concluded a (macroblockNext (s .args .progress) (now (s .args .words)))) (sym (c .before .enum-told .given .1) ∙ fault-is e)
 
@@ -75,7 +71,6 @@ judge-macroblock-spec =
     (tie.spec
     macroblock-of-requires
     blocks-of-requires
-    placed-by-requires
     placed-fault-requires
     fault-of-requires
     earlier-requires

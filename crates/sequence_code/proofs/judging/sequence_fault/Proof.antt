@@ -1,13 +1,16 @@
 -- `sequence_fault`: rule 3 of a command.
-use borrow.Author.Tests.{not-true, not-false}
+use mathlib.Core.List.{[], _∷_}
+use Rattle.answers.specs.Answers.{rule}
+use Rattle.answers.proofs.Judging.{in-turn}
+use borrow.Author.Needs.{needs}
 use Rattle.sequence_code.proofs.judging.sequence_fault.Statement.{statement}
 use Rattle.sequence_code.proofs.judging.sequence_fault.Tie as tie
 
-returns : tie.Need-returns
-returns c = simp (not-true (c .before .args .permitted) (c .if1 .taken))
+unless-requires : tie.Need-unless-requires
+unless-requires c κs = search needs
 
-returns-2 : tie.Need-returns-2
-returns-2 c = simp (not-false (c .before .args .permitted) (c .if1 .left))
+returns : tie.Need-returns
+returns c = rw (c .unless .ensures) (in-turn (rule 3 0 (c .before .args .permitted) ∷ []) tt)
 
 pub sequence-fault-spec : {M : Type 1} → statement M
-sequence-fault-spec = tie.close (tie.spec returns returns-2)
+sequence-fault-spec = tie.close (tie.spec unless-requires returns)
