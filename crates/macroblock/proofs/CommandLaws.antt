@@ -74,8 +74,8 @@ module _ (m : Macroblock) where
   unfolding macroblockOf wordsOf
   macroblock-back l =
       same-macroblock
-      (packed-field (fields2 m) 15 0 tt ∙ mod-eq-of-lt (l .column-fits))
-      (packed-field (fields2 m) 31 16 tt ∙ mod-eq-of-lt (l .row-fits))
+      (packed-field (fields2 (m .column) (m .row)) 15 0 tt ∙ mod-eq-of-lt (l .column-fits))
+      (packed-field (fields2 (m .column) (m .row)) 31 16 tt ∙ mod-eq-of-lt (l .row-fits))
       (packed-field (first m) 31 16 tt ∙ mod-eq-of-lt (l .upper-fits))
       (ap (λ (k : ℕ). caseOf (motion k (wordAt (vectorWords (motionOf (m .case))) 0) (wordAt (vectorWords (motionOf (m .case))) 1))) kind-back ∙ case-again (m .case) (l .case-fits))
       (ap isSet (packed-field (first m) 2 2 tt) ∙ flag-back (m .skip))
@@ -128,7 +128,7 @@ module _ (m : Macroblock) where
       let vectors = vectors-words (m .case) (l .case-fits) in
       record {
         nine = ap (λ (n : ℕ). suc (suc (suc (suc (suc n))))) (vectors-four (motionOf (m .case)));
-        words = (omega arith, (packed-lt (first m), (packed-lt (fields2 m), (packed-lt (fields3 m), (packed-lt (fields4 m), vectors)))));
+        words = (omega arith, (packed-lt (first m), (packed-lt (fields2 (m .column) (m .row)), (packed-lt (fields3 m), (packed-lt (fields4 m), vectors)))));
         header = refl;
         kept =
             none-broken (commandRules (wordsOf m))
@@ -222,9 +222,9 @@ module _ (ws : List ℕ) (c : LegalCommand ws) where
         ),
       )
 
-  word2-back : packed (fields2 m) ≡ w 2
+  word2-back : packed (fields2 (m .column) (m .row)) ≡ w 2
   unfolding macroblockOf
-  word2-back = packed-is (fields2 m) (w 2) (piece 15 0 ∷ piece 31 16 ∷ []) (word-below ws (c .words) 2) tt (bits-cut (w 2) 15 0, (bits-cut (w 2) 31 16, tt))
+  word2-back = packed-is (fields2 (m .column) (m .row)) (w 2) (piece 15 0 ∷ piece 31 16 ∷ []) (word-below ws (c .words) 2) tt (bits-cut (w 2) 15 0, (bits-cut (w 2) 31 16, tt))
 
   word3-back : packed (fields3 m) ≡ w 3
   unfolding macroblockOf commandRules fieldRules

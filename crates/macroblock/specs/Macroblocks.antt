@@ -68,8 +68,8 @@ macroblockOf ws = assembled (wordAt ws 1) (wordAt ws 2) (wordAt ws 3) (wordAt ws
 abbrev pub fields1 : ℕ → ℕ → Bool → List Field
 fields1 upper kind skip = field 31 16 upper ∷ field 13 13 (flag (eqb kind 0)) ∷ field 12 8 (typeOf kind) ∷ field 2 2 (flag skip) ∷ []
 
-abbrev pub fields2 : Macroblock → List Field
-fields2 m = field 31 16 (m .row) ∷ field 15 0 (m .column) ∷ []
+abbrev pub fields2 : ℕ → ℕ → List Field
+fields2 column row = field 31 16 row ∷ field 15 0 column ∷ []
 
 abbrev pub fields3 : Macroblock → List Field
 fields3 m = field 31 24 (m .«max_size») ∷ field 23 16 (m .«target_size») ∷ field 11 6 (m .pattern) ∷ []
@@ -90,7 +90,7 @@ unfoldable pub wordsOf : Macroblock → List ℕ
 wordsOf m =
     macroblockHeader
     ∷ packed (fields1 (m .upper) (motionOf (m .case) .kind) (m .skip))
-    ∷ packed (fields2 m)
+    ∷ packed (fields2 (m .column) (m .row))
     ∷ packed (fields3 m)
     ∷ packed (fields4 m)
     ∷ vectorWords (motionOf (m .case))

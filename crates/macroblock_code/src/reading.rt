@@ -8,7 +8,7 @@ ghost use mathlib.Core.Path.{_≡_};
 ghost use Rattle.macroblock.specs.Macroblocks.{kindIn, flagsIn, motionIn, assembled, macroblockOf};
 
 // The kind that word 1 gives, a number that is no kind among them.
-fn kind_in(word1: u32) -> u8
+pub fn kind_in(word1: u32) -> u8
     ensures { λ r. ⌜ r ≡ kindIn word1 ⌝ }
 {
     if fields_code::is_set(word1, 13) {
@@ -31,7 +31,8 @@ pub(crate) fn motion_in(words: &[u32]) -> Motion
     }
 }
 
-fn flags_in(word4: u32) -> Flags
+// The flags of word 4.
+pub fn flags_in(word4: u32) -> Flags
     ensures { λ r. ⌜ r ≡ flagsIn word4 ⌝ }
 {
     Flags {

@@ -42,13 +42,12 @@ fn word1_of(upper: u16, kind: u8, skip: bool) -> u32
     fields_code::with_bits(to13, 31, 16, upper as u32)
 }
 
-fn word2_of(macroblock: Macroblock) -> u32
-    ensures { λ r. ⌜ r ≡ packed (fields2 macroblock) ⌝ }
+// Word 2 of a macroblock at this column and row.
+pub fn word2_of(column: u16, row: u16) -> u32
+    ensures { λ r. ⌜ r ≡ packed (fields2 column row) ⌝ }
 {
-    let column = macroblock.column as u32;
-    let row = macroblock.row as u32;
-    let to15 = fields_code::with_bits(0, 15, 0, column);
-    fields_code::with_bits(to15, 31, 16, row)
+    let to15 = fields_code::with_bits(0, 15, 0, column as u32);
+    fields_code::with_bits(to15, 31, 16, row as u32)
 }
 
 fn word3_of(macroblock: Macroblock) -> u32
@@ -87,7 +86,7 @@ pub fn words_of(macroblock: Macroblock) -> [u32; 9]
     [
         MACROBLOCK_HEADER,
         word1,
-        word2_of(macroblock),
+        word2_of(macroblock.column, macroblock.row),
         word3_of(macroblock),
         word4_of(macroblock),
         vectors[0],

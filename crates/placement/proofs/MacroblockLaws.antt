@@ -1,22 +1,24 @@
 -- What holds of a MACROBLOCK command that keeps its rules, and the parts of its judgement put together.
-use mathlib.Core.Path.{_≡_, sym, _∙_, ap, ap₂}
+use mathlib.Core.Path.{_≡_, refl, sym, _∙_, ap, ap₂}
+use mathlib.Core.Bool.{Bool, true, _&&_}
 use mathlib.Core.List.{List}
-use Prim.Native.Nat.{ℕ, _<_}
-use borrow.Author.Tests.{ltb-true}
-use lib.Dec.{T, ltb}
-use Rattle.lists.proofs.Booleans.{and-right}
+use Prim.Native.Nat.{ℕ, _<_, _≤_}
+use borrow.Author.Tests.{ltb-true, eqb-true, eq-eqb, le-leb}
+use lib.Dec.{T, eqb, ltb}
+use Rattle.lists.proofs.Booleans.{and-left, and-right, both-true}
 use Rattle.answers.specs.Answers.{earlier, judged}
 use Rattle.answers.specs.declared.Answer.{Answer}
 use Rattle.answers.specs.declared.Answer.the-variants.{Accepted}
 use Rattle.answers.proofs.Judging.{judged-append, both-accept, rule-kept, within, within-both}
+use Rattle.headers.specs.Words.{wordAt}
 use Rattle.macroblock.specs.Macroblocks.{macroblockOf}
 use Rattle.macroblock.specs.Rules.{commandRules}
 use Rattle.macroblock.specs.declared.Macroblock.{Macroblock}
 use Rattle.macroblock.proofs.CommandLaws.{command-within}
 use Rattle.progress.specs.declared.Progress.{Progress}
 use Rattle.placement.specs.Blocks.{blocksOf}
-use Rattle.placement.specs.Placing.{placedRules, macroblockRules}
-use Rattle.placement.specs.Progressing.{progressAfter, macroblockNext}
+use Rattle.placement.specs.Placing.{zeroVectors, repeats, placedRules, macroblockRules}
+use Rattle.placement.specs.Progressing.{previousOf, progressAfter, macroblockNext}
 use Rattle.placement.specs.declared.Blocks.{Blocks}
 
 -- the answer, from the answers to the two tables
@@ -51,3 +53,21 @@ alone-kept p ws e = both-accept (placedRules p (blocksOf p (macroblockOf ws .cas
 pub macroblock-within : (p : Progress) (ws : List ℕ) → T (within 12 8 (macroblockRules p ws))
 unfolding macroblockRules placedRules
 macroblock-within p ws = within-both 12 8 (placedRules p (blocksOf p (macroblockOf ws .case)) (macroblockOf ws) ws) (commandRules ws) tt (command-within ws)
+
+-- Words 5 to 8 that are zero are so each by itself, and a macroblock repeats itself.
+pub zero-words : (c : List ℕ) → zeroVectors c ≡ true → (wordAt c 5 ≡ 0) × (wordAt c 6 ≡ 0) × (wordAt c 7 ≡ 0) × (wordAt c 8 ≡ 0)
+zero-words c z =
+    let zero : ℕ → Bool = λ i. eqb (wordAt c i) 0 in
+    let low = and-left (zero 5 && zero 6) (zero 7 && zero 8) z in
+    let high = and-right (zero 5 && zero 6) (zero 7 && zero 8) z in (
+      eqb-true (wordAt c 5) 0 (and-left (zero 5) (zero 6) low),
+      eqb-true (wordAt c 6) 0 (and-right (zero 5) (zero 6) low),
+      eqb-true (wordAt c 7) 0 (and-left (zero 7) (zero 8) high),
+      eqb-true (wordAt c 8) 0 (and-right (zero 7) (zero 8) high),
+    )
+
+repeats-itself : (kind : ℕ) (ws : List ℕ) → 1 ≤ kind → repeats (previousOf kind ws) kind ws ≡ true
+repeats-itself kind ws some =
+    let same : (n : ℕ) → eqb n n ≡ true = λ n. eq-eqb n n refl in
+    both-true (both-true (le-leb 1 kind some) (same kind))
+    (both-true (both-true (same (wordAt ws 5)) (same (wordAt ws 6))) (both-true (same (wordAt ws 7)) (same (wordAt ws 8))))

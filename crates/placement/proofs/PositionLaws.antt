@@ -6,7 +6,7 @@ use mathlib.Core.Path.{_≡_, refl}
 use Prim.Native.Nat.{ℕ, _+_, _*_, _/_, _%_, _≤_, _<_}
 use native.Mathlib.Nat.{add-mul}
 use native.Mathlib.Omega.{arith}
-use borrow.Author.Tests.{ltb-true, ltb-false, eqb-true}
+use borrow.Author.Tests.{lt-ltb, ltb-true, ltb-false, eqb-true}
 use lib.Arith.{digits-div, digits-mod}
 use lib.Dec.{eqb, ltb}
 use Rattle.lists.proofs.Booleans.{and-left, and-right}
@@ -21,10 +21,10 @@ use Rattle.placement.specs.Placing.{placedRules, macroblockRules}
 use Rattle.placement.specs.Progressing.{positionAfter, countBefore, stageAfter, progressAfter, macroblockNext}
 
 -- The next position is in its row, and one more macroblock comes before it.
-pub next-position : (g : Grid) (at : Position) → at .column < g .columns
+pub next-position : (g : Grid) (at : Position) → at .row < g .rows → at .column < g .columns
     → (positionAfter g at .column < g .columns) × (countBefore (g .columns) (positionAfter g at) ≡ countBefore (g .columns) at + 1)
 unfolding positionAfter
-next-position g at h = by (ltb (at .column + 1) (g .columns)) refl
+next-position g at l h = rw (lt-ltb (at .row) (g .rows) l) (by (ltb (at .column + 1) (g .columns)) refl)
   where
     after : Bool → Position
     after b = cond b (record { column = at .column + 1; row = at .row }) (record { column = 0; row = at .row + 1 })
@@ -43,7 +43,7 @@ Reached g at = (at .row < g .rows) ⊎ ((at .row ≡ g .rows) × (at .column ≡
 
 pub next-reached : (g : Grid) (at : Position) → at .row < g .rows → Reached g (positionAfter g at)
 unfolding positionAfter
-next-reached g at h = by (ltb (at .column + 1) (g .columns)) (split (at .row + 1) (g .rows))
+next-reached g at h = rw (lt-ltb (at .row) (g .rows) h) (by (ltb (at .column + 1) (g .columns)) (split (at .row + 1) (g .rows)))
   where
     split : (a b : ℕ) → (a < b) ⊎ (b ≤ a)
     split a b = either (ltb a b) refl

@@ -18,12 +18,14 @@ use Rattle.progress.specs.declared.Stage.{Stage}
 use Rattle.placement.specs.Blocks.{blocksOf}
 use Rattle.placement.specs.declared.Blocks.{Blocks}
 
--- The position after a position: the next column, or the first of the next row.
+-- The position after a position: the next column, or the first of the next row. Behind the last row there is none.
 unfoldable pub positionAfter : Grid → Position → Position
 positionAfter g at =
-    cond (ltb (at .column + 1) (g .columns))
+    cond (ltb (at .row) (g .rows))
+    (cond (ltb (at .column + 1) (g .columns))
     (record { column = at .column + 1; row = at .row })
-    (record { column = 0; row = at .row + 1 })
+    (record { column = 0; row = at .row + 1 }))
+    at
 
 -- How many macroblocks come before a position, in a picture of w columns.
 abbrev pub countBefore : ℕ → Position → ℕ

@@ -24,7 +24,8 @@ fn coding_permits(coding: u8, kind: u8) -> bool
     (kind == 0) | (((coding == 2) & (kind == 1)) | (coding == 3))
 }
 
-fn zero_vectors(words: &[u32]) -> bool
+// Whether words 5 to 8 are zero.
+pub fn zero_vectors(words: &[u32]) -> bool
     ensures { λ r. ⌜ r ≡ zeroVectors (now (words .entry)) ⌝ }
 {
     let five = headers_code::word_at(words, 5);

@@ -10,16 +10,18 @@ use progress::Previous;
 use progress::Progress;
 use progress::Stage;
 ghost use mathlib.Core.Path.{_≡_};
-ghost use Prim.Native.Nat.{_<_};
 ghost use Rattle.placement.specs.Progressing.{positionAfter, stageAfter, previousOf, extentsAfter, progressAfter};
 
-fn position_after(grid: Grid, position: Position) -> Position
-    requires { ⌜ position .row < grid .rows ⌝ }
+// The position after a position.
+pub fn position_after(grid: Grid, position: Position) -> Position
     ensures { λ r. ⌜ r ≡ positionAfter grid position ⌝ }
 {
     let column = position.column;
     let row = position.row;
     let columns = grid.columns;
+    if grid.rows <= row {
+        return position;
+    }
     if column as u32 + 1 < columns as u32 {
         return Position {
             column: column + 1,
@@ -32,7 +34,8 @@ fn position_after(grid: Grid, position: Position) -> Position
     }
 }
 
-fn stage_after(stage: Stage, flags: Flags) -> Stage
+// The stage after a macroblock with these flags.
+pub fn stage_after(stage: Stage, flags: Flags) -> Stage
     ensures { λ r. ⌜ r ≡ stageAfter stage flags ⌝ }
 {
     Stage {
@@ -46,7 +49,8 @@ fn stage_after(stage: Stage, flags: Flags) -> Stage
     }
 }
 
-fn previous_of(kind: u8, words: &[u32]) -> Previous
+// What a skipped macroblock has to repeat of the one before it, of this kind.
+pub fn previous_of(kind: u8, words: &[u32]) -> Previous
     ensures { λ r. ⌜ r ≡ previousOf kind (now (words .entry)) ⌝ }
 {
     let five = headers_code::word_at(words, 5);
@@ -85,7 +89,6 @@ pub(crate) fn progress_after(
     macroblock: Macroblock,
     words: &[u32],
 ) -> Progress
-    requires { ⌜ progress .position .row < progress .picture .grid .rows ⌝ }
     ensures { λ r. ⌜ r ≡ progressAfter progress blocks macroblock (now (words .entry)) ⌝ }
 {
     let case = macroblock.case;

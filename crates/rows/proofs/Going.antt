@@ -138,7 +138,7 @@ module _ (p : Progress) (ws : List ℕ) (column due was at : ℕ) (f b : Extent)
       place : afterRow p m f b (commandAt ws j) .position ≡ placeIn p column
       place =
           let next : m + 1 < p .picture .grid .columns = omega arith in
-          simp (lt-ltb (m + 1) (p .picture .grid .columns) next, ec)
+          simp (lt-ltb (p .position .row) (p .picture .grid .rows) (row .in-rows), lt-ltb (m + 1) (p .picture .grid .columns) next, ec)
 
       own : (e : Extent) → joined (joined e (reachIn p m 0)) (reachIn p column 0) ≡ joined e (reachIn p column 0)
       own e =

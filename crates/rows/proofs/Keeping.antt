@@ -25,8 +25,9 @@ use Rattle.placement.specs.Placing.{exactly, inSequence, codingPermits, zeroVec
 use Rattle.prediction.specs.declared.Position.{Position}
 use Rattle.progress.specs.declared.Previous.{Previous}
 use Rattle.progress.specs.declared.Progress.{Progress}
+use Rattle.placement.proofs.MacroblockLaws.{zero-words}
 use Rattle.rows.specs.Steps.{AtWord}
-use Rattle.rows.specs.Words.{lowHalf, boundBits, dueBits, FlagsKept, ZeroWords, IntraKept, Repeated, SkipKept, InterKept}
+use Rattle.rows.specs.Words.{lowHalf, boundBits, dueBits, FlagsKept, IntraKept, Repeated, SkipKept, InterKept}
 
 left : (p q : Bool) → T p → T (p || q)
 left true q s = tt
@@ -183,10 +184,6 @@ accepted q c k =
 -- The skip rules of a macroblock of kind k that comes in a P or B picture.
 module _ (q : Progress) (c before : List ℕ) (k : ℕ) (some : 1 ≤ k) (kind : kindIn (wordAt c 1) ≡ k)
     (previous : (length before ≡ 0 → ⊥) → q .previous ≡ previousOf (kindIn (wordAt before 1)) before) where
-  zero-vectors : ZeroWords c → zeroVectors c ≡ true
-  zero-vectors z =
-      both-true (both-true (eq-eqb _ 0 (z .five)) (eq-eqb _ 0 (z .six))) (both-true (eq-eqb _ 0 (z .seven)) (eq-eqb _ 0 (z .eight)))
-
   same-type : bits (wordAt before 1) 13 8 ≡ bits (wordAt c 1) 13 8 → kindIn (wordAt before 1) ≡ kindIn (wordAt c 1)
   same-type e =
       let intra : bits (wordAt before 1) 13 13 ≡ bits (wordAt c 1) 13 13 = omega arith in
@@ -205,9 +202,9 @@ module _ (q : Progress) (c before : List ℕ) (k : ℕ) (some : 1 ≤ k) (kind :
   skip-permitted : SkipKept (q .picture .coding) before c → skipPermitted (q .picture .coding) (q .previous) k c ≡ true
   skip-permitted s = by (s .allowed)
     where
-      by : ((q .picture .coding ≡ 2) × ZeroWords c) ⊎ ((q .picture .coding ≡ 2 → ⊥) × Repeated before c) → skipPermitted (q .picture .coding) (q .previous) k c ≡ true
+      by : ((q .picture .coding ≡ 2) × (zeroVectors c ≡ true)) ⊎ ((q .picture .coding ≡ 2 → ⊥) × Repeated before c) → skipPermitted (q .picture .coding) (q .previous) k c ≡ true
       by (inl (e, z)) =
-          both-true (or-true (not (eqb (q .picture .coding) 2)) (zeroVectors c) (zero-vectors z))
+          both-true (or-true (not (eqb (q .picture .coding) 2)) (zeroVectors c) z)
           (ap (λ (x : ℕ). not (eqb x 3) || repeats (q .previous) k c) e)
       by (inr (n, r)) =
           both-true (ap (λ (x : Bool). not x || zeroVectors c) (ne-eqb (q .picture .coding) 2 n))
@@ -251,7 +248,7 @@ keeps-intra q c placed low kept =
     let t = typed-intra (wordAt c 1) low in
     let five = wordAt c 5 in
     let six = wordAt c 6 in
-    let z = kept .zeros in
+    let z = zero-words c (kept .zeros) in
     let skip = intra-not-skipped (wordAt c 1) low in
     let pattern = low-pattern (wordAt c 3) 0xfc0 (kept .pattern) in
     record {
@@ -273,10 +270,10 @@ keeps-intra q c placed low kept =
       intra-pattern = or-true (not (isIntra (caseOf (motion (kindIn (wordAt c 1)) five six)))) _ (eq-eqb _ 63 pattern);
       fixed-4 = placed .fixed;
       quantiser = placed .quantised;
-      five = zero-copy 5 0 (z .five) refl;
-      six = zero-copy 6 1 (z .six) refl;
-      seven = zero-copy 7 2 (z .seven) refl;
-      eight = zero-copy 8 3 (z .eight) refl;
+      five = zero-copy 5 0 (z .0) refl;
+      six = zero-copy 6 1 (z .1) refl;
+      seven = zero-copy 7 2 (z .2) refl;
+      eight = zero-copy 8 3 (z .3) refl;
     }
   where
     conversion : (q .picture .coding ≡ 1 → ⊥) ⊎ (bits (wordAt c 4) 25 25 ≡ 0) → (not (eqb (q .picture .coding) 1) || not (isSet (bits (wordAt c 4) 25 25))) ≡ true

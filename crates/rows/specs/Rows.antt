@@ -17,7 +17,6 @@ use Rattle.prediction.specs.declared.Extent.{Extent}
 use Rattle.prediction.specs.declared.Position.{Position}
 use Rattle.progress.specs.declared.Extents.{Extents}
 use Rattle.progress.specs.declared.Previous.{Previous}
-use Rattle.progress.specs.declared.Stage.{Stage}
 use Rattle.placement.specs.Progressing.{positionAfter, stageAfter, previousOf, macroblockNext}
 use Rattle.rows.specs.Steps.{placeIn, reachIn}
 use Rattle.rows.specs.declared.Taken.{Taken}
@@ -36,9 +35,6 @@ pub record TakenFrom (p : Progress) (ws : List ℕ) (r : Taken) : Type 0 where
 
 -- The progress after commands of a row from `p` on, of which the last, at this column, has words `c`: only what is touched of the
 -- references is made up of all of them.
-abbrev pub stageNext : Stage → ℕ → Stage
-stageNext s four = stageAfter s (flagsIn four)
-
 abbrev pub previousIn : List ℕ → Previous
 previousIn c = previousOf (kindIn (wordAt c 1)) c
 
@@ -54,7 +50,7 @@ extentsNext p column f b =
 unfoldable pub afterRow : Progress → ℕ → Extent → Extent → List ℕ → Progress
 afterRow p column f b c =
     record {
-      stage = stageNext (p .stage) (wordAt c 4);
+      stage = stageAfter (p .stage) (flagsIn (wordAt c 4));
       frame = p .frame;
       picture = p .picture;
       position = positionAfter (p .picture .grid) (placeIn p column);

@@ -7,6 +7,7 @@ use mathlib.Core.Path.{_≡_}
 use lib.ListN.{length}
 use Rattle.fields.specs.Word.{bits, withBits}
 use Rattle.headers.specs.Words.{wordAt}
+use Rattle.placement.specs.Placing.{zeroVectors}
 
 -- A word without its upper half.
 abbrev pub lowHalf : ℕ → ℕ
@@ -25,15 +26,9 @@ pub record FlagsKept (four due : ℕ) (last : Bool) : Type 0 where
   pub quantised : 1 ≤ bits four 4 0
   pub ends : (bits four 31 31 ≡ 1) ⊎ ((last ≡ false) × (bits four 26 26 ≡ 0))
 
-pub record ZeroWords (ws : List ℕ) : Type 0 where
-  pub five : wordAt ws 5 ≡ 0
-  pub six : wordAt ws 6 ≡ 0
-  pub seven : wordAt ws 7 ≡ 0
-  pub eight : wordAt ws 8 ≡ 0
-
 pub record IntraKept (coding : ℕ) (ws : List ℕ) : Type 0 where
   pub pattern : lowHalf (wordAt ws 3) ≡ 0xfc0
-  pub zeros : ZeroWords ws
+  pub zeros : zeroVectors ws ≡ true
   pub conversion : (coding ≡ 1 → ⊥) ⊎ (bits (wordAt ws 4) 25 25 ≡ 0)
 
 pub record Repeated (before ws : List ℕ) : Type 0 where
@@ -47,7 +42,7 @@ pub record Repeated (before ws : List ℕ) : Type 0 where
 pub record SkipKept (coding : ℕ) (before ws : List ℕ) : Type 0 where
   pub pattern : lowHalf (wordAt ws 3) ≡ 0
   pub inside-slice : bits (wordAt ws 4) 31 30 ≡ 0
-  pub allowed : ((coding ≡ 2) × ZeroWords ws) ⊎ ((coding ≡ 2 → ⊥) × Repeated before ws)
+  pub allowed : ((coding ≡ 2) × (zeroVectors ws ≡ true)) ⊎ ((coding ≡ 2 → ⊥) × Repeated before ws)
 
 pub record InterKept (coding : ℕ) (before ws : List ℕ) : Type 0 where
   pub seven : wordAt ws 5 ≡ wordAt ws 7

@@ -49,7 +49,7 @@ fn taken(
     backward: Extent,
     words: &[u32],
 ) -> Taken
-    requires { ⌜ (at ≤ length (now words)) × ((1 ≤ at → (9 ≤ at) × (1 ≤ column)) × (progress .position .row < progress .picture .grid .rows)) ⌝ }
+    requires { ⌜ (at ≤ length (now words)) × (1 ≤ at → (9 ≤ at) × (1 ≤ column)) ⌝ }
     ensures { λ r. ⌜ AfterRow progress column at forward backward (now (words .entry)) r ⌝ }
 {
     if at == 0 {

@@ -182,7 +182,7 @@ fn judge_inter(
 fn place_word(column: u16, row: u16) -> u32
     ensures { λ r. ⌜ AtWord r column row ⌝ }
 {
-    row as u32 * 65536 + column as u32
+    macroblock_code::word2_of(column, row)
 }
 
 fn is_last(column: u16, columns: u16) -> bool

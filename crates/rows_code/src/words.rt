@@ -1,7 +1,7 @@
 // Tests of the words of a MACROBLOCK command, each for all rules that it can answer at once.
 ghost use mathlib.Core.Bool.{true};
 ghost use mathlib.Core.Path.{_≡_};
-ghost use Rattle.rows.specs.Words.{boundBits, FlagsKept, ZeroWords, IntraKept, Repeated, SkipKept, InterKept};
+ghost use Rattle.rows.specs.Words.{boundBits, FlagsKept, IntraKept, Repeated, SkipKept, InterKept};
 
 // Word 4 without the bits that a macroblock is free to set: 31, 27:25 and 4:0.
 fn bound_bits(four: u32) -> u32
@@ -34,25 +34,6 @@ pub(crate) fn flags_keep(four: u32, due: u32, last: bool) -> bool
     true
 }
 
-// Whether words 5 to 8 are zero.
-fn zero_words(words: &[u32]) -> bool
-    ensures { λ r. ⌜ (r ≡ true → ZeroWords (now (words .entry))) ⌝ }
-{
-    if headers_code::word_at(words, 5) != 0 {
-        return false;
-    }
-    if headers_code::word_at(words, 6) != 0 {
-        return false;
-    }
-    if headers_code::word_at(words, 7) != 0 {
-        return false;
-    }
-    if headers_code::word_at(words, 8) != 0 {
-        return false;
-    }
-    true
-}
-
 // Whether words 3 to 8 of an intra macroblock are as they have to be, word 4 but for the picture's type.
 pub(crate) fn intra_keeps(coding: u8, words: &[u32]) -> bool
     ensures { λ r. ⌜ (r ≡ true → IntraKept coding (now (words .entry))) ⌝ }
@@ -62,7 +43,7 @@ pub(crate) fn intra_keeps(coding: u8, words: &[u32]) -> bool
     if fields_code::with_bits(three, 31, 16, 0) != 0xfc0 {
         return false;
     }
-    if !zero_words(words) {
+    if !placement_code::zero_vectors(words) {
         return false;
     }
     if coding != 1 {
@@ -114,7 +95,7 @@ fn skip_keeps(coding: u8, before: &[u32], words: &[u32]) -> bool
         return false;
     }
     if coding == 2 {
-        return zero_words(words);
+        return placement_code::zero_vectors(words);
     }
     repeats(before, words)
 }

@@ -99,7 +99,7 @@ macroblock-sound : (p q : Progress) → Sound p → Advances p q → p .stage .�
 macroblock-sound p q s a g left =
     let pictured = s .group-pictured g in
     let surfaced = s .pictured-surfaced pictured in
-    let n = next-position (p .picture .grid) (p .position) (s .in-row pictured) in (
+    let n = next-position (p .picture .grid) (p .position) left (s .in-row pictured) in (
       record {
         group-pictured = λ e. a .pictured-stays ∙ pictured;
         pictured-surfaced = λ e. a .surfaced-stays ∙ surfaced;

@@ -5,12 +5,6 @@ use borrow.Author.Needs.{needs}
 use Rattle.macroblock_code.proofs.writing.word2_of.Statement.{statement}
 use Rattle.macroblock_code.proofs.writing.word2_of.Tie as tie
 
-cast-column : tie.Need-cast-column
-cast-column c = search needs
-
-cast-row : tie.Need-cast-row
-cast-row c = search needs
-
 with-bits-requires : tie.Need-with-bits-requires
 with-bits-requires c κs = search needs
 
@@ -22,4 +16,4 @@ returns c = c .with-bits2 .ensures ∙ same-put 31 16 (c .before .with-bits .ens
 
 pub word2-of-spec : {M : Type 1} → statement M
 word2-of-spec =
-    tie.close (tie.spec cast-column cast-row with-bits-requires with-bits-requires-2 returns)
+    tie.close (tie.spec with-bits-requires with-bits-requires-2 returns)

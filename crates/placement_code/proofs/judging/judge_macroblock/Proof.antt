@@ -7,7 +7,7 @@ use Rattle.progress.specs.Progress.{concluded}
 use Rattle.progress.specs.declared.Verdict.the-variants.{Next}
 use Rattle.placement.specs.Placing.{macroblockRules}
 use Rattle.placement.specs.Progressing.{macroblockNext}
-use Rattle.placement.proofs.MacroblockLaws.{judged-whole, next-whole, row-left}
+use Rattle.placement.proofs.MacroblockLaws.{judged-whole, next-whole}
 use borrow.Author.Needs.{needs}
 use Rattle.placement_code.proofs.judging.judge_macroblock.Statement.{statement}
 use Rattle.placement_code.proofs.judging.judge_macroblock.Tie as tie
@@ -50,10 +50,7 @@ enum-told : tie.Need-enum-told
 enum-told c = search needs
 
 progress-after-requires : tie.Need-progress-after-requires
-progress-after-requires c κs =
-    let e = c .before .before in
-    let s = e .before .before .before .before .before .before in
-    row-left (s .args .progress) (now (s .args .words)) (sym (fault-is e) ∙ c .enum-told .given .1)
+progress-after-requires c κs = search needs
 
 returns-2 : tie.Need-returns-2
 returns-2 c =

@@ -125,7 +125,7 @@ enum-told c = search needs
 taken-requires : tie.Need-taken-requires Inv-loop μ-loop
 taken-requires c κs =
     let l = c .before .before .before .before .before .before .before .loop in
-    (l .inv .room, ((λ e. (omega (arith, l .inv .going .at-is), omega (arith, l .inv .going .at-is, l .inv .going .column-is))), c .before .before .before .before .before .before .before .before .before .before .before .before .before .before .before .before .pre .in-rows))
+    (l .inv .room, λ e. (omega (arith, l .inv .going .at-is), omega (arith, l .inv .going .at-is, l .inv .going .column-is)))
 
 returns : tie.Need-returns Inv-loop μ-loop
 returns c =
@@ -141,7 +141,7 @@ bits-requires c κs = search needs
 
 taken-requires-2 : tie.Need-taken-requires-2 Inv-loop μ-loop
 taken-requires-2 c κs =
-    (enough (c .before .before .before .before .before .before .before .before .before), ((λ e. (omega arith, omega arith)), c .before .before .before .before .before .before .before .before .before .before .before .before .before .before .before .before .before .before .before .pre .in-rows))
+    (enough (c .before .before .before .before .before .before .before .before .before), λ e. (omega arith, omega arith))
 
 returns-2 : tie.Need-returns-2 Inv-loop μ-loop
 returns-2 c =
@@ -179,7 +179,7 @@ loop-again c =
 taken-requires-3 : tie.Need-taken-requires-3 Inv-loop μ-loop
 taken-requires-3 c κs =
     let l = c .before .loop in
-    (l .inv .room, ((λ e. (omega (arith, l .inv .going .at-is), omega (arith, l .inv .going .at-is, l .inv .going .column-is))), c .before .before .before .before .before .before .before .before .before .before .pre .in-rows))
+    (l .inv .room, λ e. (omega (arith, l .inv .going .at-is), omega (arith, l .inv .going .at-is, l .inv .going .column-is)))
 
 returns-3 : tie.Need-returns-3 Inv-loop μ-loop
 returns-3 c =

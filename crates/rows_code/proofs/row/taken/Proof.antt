@@ -9,10 +9,10 @@ returns : tie.Need-returns
 returns c = record { used-is = search needs; none = λ e. refl; some = λ e. absurd (omega (arith, c .if1 .taken)) }
 
 sub-start : tie.Need-sub-start
-sub-start c = omega (arith, c .before .before .pre .1 .0 (omega (arith, c .if1 .left)))
+sub-start c = omega (arith, c .before .before .pre .1 (omega (arith, c .if1 .left)))
 
 sub-last : tie.Need-sub-last
-sub-last c = omega (arith, c .before .before .pre .1 .0 (omega (arith, c .if1 .left)))
+sub-last c = omega (arith, c .before .before .pre .1 (omega (arith, c .if1 .left)))
 
 mul-after-row : tie.Need-mul-after-row
 mul-after-row c = search needs

@@ -19,14 +19,14 @@ with-bits-requires c κs = search needs
 returns : tie.Need-returns
 returns c = λ e. absurd (no e)
 
-zero-words-requires : tie.Need-zero-words-requires
-zero-words-requires c κs = search needs
+zero-vectors-requires : tie.Need-zero-vectors-requires
+zero-vectors-requires c κs = search needs
 
 returns-2 : tie.Need-returns-2
 returns-2 c = λ e. absurd (no e)
 
 returns-3 : tie.Need-returns-3
-returns-3 c = λ e. record { pattern = search needs; zeros = c .before .before .zero-words .ensures (kept refl (c .before .if2 .left)); conversion = inl (search needs) }
+returns-3 c = λ e. record { pattern = search needs; zeros = kept (c .before .before .zero-vectors .ensures) (c .before .if2 .left); conversion = inl (search needs) }
 
 bits-requires : tie.Need-bits-requires
 bits-requires c κs = search needs
@@ -35,7 +35,7 @@ returns-4 : tie.Need-returns-4
 returns-4 c = λ e. absurd (no e)
 
 returns-5 : tie.Need-returns-5
-returns-5 c = λ e. record { pattern = search needs; zeros = c .before .before .before .before .zero-words .ensures (kept refl (c .before .before .before .if2 .left)); conversion = inr (search needs) }
+returns-5 c = λ e. record { pattern = search needs; zeros = kept (c .before .before .before .before .zero-vectors .ensures) (c .before .before .before .if2 .left); conversion = inr (search needs) }
 
 pub intra-keeps-spec : {M : Type 1} → statement M
 intra-keeps-spec =
@@ -45,7 +45,7 @@ intra-keeps-spec =
     word-at-requires-2
     with-bits-requires
     returns
-    zero-words-requires
+    zero-vectors-requires
     returns-2
     returns-3
     bits-requires

@@ -1,4 +1,5 @@
 -- `skip_keeps`: whether a macroblock of a P or B picture may be skipped.
+use mathlib.Core.Path.{sym, _∙_}
 use mathlib.Core.Logic.{inl, inr}
 use borrow.Author.Needs.{needs}
 use Rattle.lists.proofs.Booleans.{no}
@@ -23,11 +24,11 @@ bits-requires c κs = search needs
 returns-2 : tie.Need-returns-2
 returns-2 c = λ e. absurd (no e)
 
-zero-words-requires : tie.Need-zero-words-requires
-zero-words-requires c κs = search needs
+zero-vectors-requires : tie.Need-zero-vectors-requires
+zero-vectors-requires c κs = search needs
 
 returns-3 : tie.Need-returns-3
-returns-3 c = λ e. record { pattern = search needs; inside-slice = search needs; allowed = inl (search needs, c .zero-words .ensures e) }
+returns-3 c = λ e. record { pattern = search needs; inside-slice = search needs; allowed = inl (search needs, sym (c .zero-vectors .ensures) ∙ e) }
 
 repeats-requires : tie.Need-repeats-requires
 repeats-requires c κs = search needs
@@ -45,7 +46,7 @@ skip-keeps-spec =
     returns
     bits-requires
     returns-2
-    zero-words-requires
+    zero-vectors-requires
     returns-3
     repeats-requires
     returns-4)
