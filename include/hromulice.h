@@ -26,12 +26,15 @@
 #include <stdint.h>
 
 /* The version of this header. A major step: an earlier caller has to be changed or compiled again. A minor step: functions were added,
- * and an earlier caller works as it is. A patch step: neither, but answers may be others: 1.0.1 counts lengths in Y tiles, 1.0.0 counted
- * plain rows. HROMULICE_VERSION is one number, greater for a later version. */
-#define HROMULICE_VERSION_MAJOR 1
+ * and an earlier caller works as it is. A patch step: neither, but answers may be others. HROMULICE_VERSION is one number, greater for a
+ * later version.
+ *
+ * 2.0.0: a hromulice_state has 128 words; it had 99, and a caller that lends one has to be compiled again.
+ * 1.0.1: lengths are counted in Y tiles; 1.0.0 counted plain rows. */
+#define HROMULICE_VERSION_MAJOR 2
 #define HROMULICE_VERSION_MINOR 0
-#define HROMULICE_VERSION_PATCH 1
-#define HROMULICE_VERSION_TEXT "1.0.1"
+#define HROMULICE_VERSION_PATCH 0
+#define HROMULICE_VERSION_TEXT "2.0.0"
 #define HROMULICE_VERSION (HROMULICE_VERSION_MAJOR * 65536u + HROMULICE_VERSION_MINOR * 256u + HROMULICE_VERSION_PATCH)
 
 /* Before a function: an answer that is dropped is a warning. */
@@ -100,8 +103,9 @@ typedef struct {
 } hromulice_answer;
 
 /* The state of a check in parts, in memory that the caller lends. What the words mean is the library's own matter. Any content is
- * taken: words that hromulice_begin or hromulice_hand_over did not leave stand for some state too. It may be copied. */
-#define HROMULICE_STATE_WORDS 99
+ * taken: words that hromulice_begin or hromulice_hand_over did not leave stand for some state too. It may be copied. There are more words
+ * than a state has, so that a later library can keep more in them. */
+#define HROMULICE_STATE_WORDS 128
 typedef struct {
     uint64_t words[HROMULICE_STATE_WORDS];
 } hromulice_state;

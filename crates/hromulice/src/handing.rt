@@ -7,7 +7,7 @@ ghost use Rattle.interface.specs.Handing.{MemoryBegun, MemoryHanded, summaryIn}
 
 // A check with four buffers of these lengths, before its first word.
 #[no_mangle]
-pub extern "C" fn hromulice_begin(lengths: Lengths, memory: &mut [u64; 99])
+pub extern "C" fn hromulice_begin(lengths: Lengths, memory: &mut [u64; memory::WORDS])
     ensures { λ _. ⌜ MemoryBegun lengths (now (memory .exit)) ⌝ }
 {
     *memory = memory_code::state_words(parts_code::begin(lengths));
@@ -15,7 +15,7 @@ pub extern "C" fn hromulice_begin(lengths: Lengths, memory: &mut [u64; 99])
 
 // The next part. After a refusal the answer stays.
 #[no_mangle]
-pub extern "C" fn hromulice_hand_over(memory: &mut [u64; 99], part: &[u32])
+pub extern "C" fn hromulice_hand_over(memory: &mut [u64; memory::WORDS], part: &[u32])
     ensures { λ _. ⌜ MemoryHanded (now (memory .entry)) (now (part .entry)) (now (memory .exit)) ⌝ }
 {
     let state = memory_code::state_in(memory);
@@ -24,7 +24,7 @@ pub extern "C" fn hromulice_hand_over(memory: &mut [u64; 99], part: &[u32])
 
 // The answer to all words so far, taken as a whole batch.
 #[no_mangle]
-pub extern "C" fn hromulice_report_of(memory: &[u64; 99]) -> Summary
+pub extern "C" fn hromulice_report_of(memory: &[u64; memory::WORDS]) -> Summary
     ensures { λ r. ⌜ r ≡ summaryIn (now (memory .entry)) ⌝ }
 {
     let state = memory_code::state_in(memory);

@@ -1,15 +1,15 @@
 -- A state that is stored in memory and read again.
-use mathlib.Core.List.{List, _++_}
-use mathlib.Core.Path.{_≡_, refl, sym, ap, _∙_}
+use mathlib.Core.List.{List, _∷_, _++_, map}
+use mathlib.Core.Path.{_≡_, refl, sym, ap, ap₂, _∙_}
 use Prim.Native.Nat.{ℕ, zero, suc, _+_, _%_, _^_, _<_}
-use native.Mathlib.Nat.{add-zero, mod-eq-of-lt}
+use native.Mathlib.Nat.{add-zero, zero-add, mod-eq-of-lt}
 use native.Mathlib.Omega.{arith}
 use lib.ListN.{length, getD, length-map, List·getD-map}
-use lib.Seq.{ext-getD, getD-append-add}
+use Rattle.fields.proofs.Elements.{elements-all}
 use Rattle.fields.proofs.Fields.{flag-nonzero}
 use Rattle.fields.specs.Bytes.{elements}
 use Rattle.parts.specs.declared.State.{State}
-use Rattle.memory.specs.Memory.{storedBuffer, stateIn, progressWords, ownWords, lengthsWords, stateWords}
+use Rattle.memory.specs.Memory.{storedBuffer, stateIn, fieldsOf, placed, room, stateWords}
 
 length-elements : (xs : List ℕ) (i k : ℕ) → length (elements xs i k) ≡ k
 length-elements xs i zero = refl
@@ -23,11 +23,13 @@ elements-at xs i (suc k) (suc j) h =
 
 pub buffer-length : (m : List ℕ) → length (storedBuffer m) ≡ 61
 unfolding storedBuffer
-buffer-length m = length-map (elements m 38 61) (λ w. w % 2 ^ 32) ∙ length-elements m 38 61
+buffer-length m = length-map (elements m 0 61) (λ w. w % 2 ^ 32) ∙ length-elements m 0 61
 
-pub buffer-at : (m : List ℕ) (i : ℕ) → i < 61 → getD (storedBuffer m) i 0 ≡ getD m (38 + i) 0 % 2 ^ 32
+pub buffer-at : (m : List ℕ) (i : ℕ) → i < 61 → getD (storedBuffer m) i 0 ≡ getD m i 0 % 2 ^ 32
 unfolding storedBuffer
-buffer-at m i h = List·getD-map (λ w. w % 2 ^ 32) (elements m 38 61) i 0 ∙ ap (λ (n : ℕ). n % 2 ^ 32) (elements-at m 38 61 i h)
+buffer-at m i h =
+    List·getD-map (λ w. w % 2 ^ 32) (elements m 0 61) i 0
+    ∙ ap (λ (n : ℕ). n % 2 ^ 32) (elements-at m 0 61 i h ∙ ap (λ (n : ℕ). getD m n 0) (zero-add i))
 
 -- Numbers of a state that fit their types: the words of it that are cut when they are read.
 pub record Fitting (s : State) : Type 0 where
@@ -54,20 +56,28 @@ pub record Fitting (s : State) : Type 0 where
   pub held-words : length (s .buffer) ≡ 61
   pub buffer : (i : ℕ) → getD (s .buffer) i 0 < 2 ^ 32
 
-buffer-back : (s : State) → Fitting s → storedBuffer (stateWords s) ≡ s .buffer
-unfolding stateWords
-buffer-back s f =
-    ext-getD 0 (storedBuffer (stateWords s)) (s .buffer) (buffer-length (stateWords s) ∙ sym (f .held-words))
-    (λ i h. let l = buffer-length (stateWords s) in let k : i < 61 = omega arith in
-    buffer-at (stateWords s) i k
-    ∙ ap (λ (w : ℕ). w % 2 ^ 32) (getD-append-add (progressWords (s .progress) ++ ownWords s ++ lengthsWords (s .lengths)) (s .buffer) i 0)
-    ∙ mod-eq-of-lt (f .buffer i))
+-- Words of 32 bits are not cut.
+uncut : (xs : List ℕ) (i k : ℕ) → ((j : ℕ) → getD xs j 0 < 2 ^ 32) → map (λ w. w % 2 ^ 32) (elements xs i k) ≡ elements xs i k
+uncut xs i zero h = refl
+uncut xs i (suc k) h = ap₂ (λ (w : ℕ) (ws : List ℕ). w ∷ ws) (mod-eq-of-lt (h i)) (uncut xs (suc i) k h)
+
+-- The buffer as its words, one by one: then memory computes.
+listed : (s : State) → Fitting s → elements (s .buffer) 0 61 ≡ s .buffer
+listed s f = elements-all (s .buffer) 61 (f .held-words)
+
+abbrev memoryWith : State → List ℕ → List ℕ
+memoryWith s buffer = placed (fieldsOf s) (buffer ++ room)
+
+buffer-back : (s : State) → Fitting s → storedBuffer (memoryWith s (elements (s .buffer) 0 61)) ≡ s .buffer
+unfolding storedBuffer
+buffer-back s f = uncut (s .buffer) 0 61 (f .buffer) ∙ listed s f
 
 -- What is read of a state that was stored is that state.
 pub stored-read : (s : State) → Fitting s → stateIn (stateWords s) ≡ s
 unfolding stateIn stateWords
 stored-read s f =
-    simp (
+    ap (λ (b : List ℕ). stateIn (memoryWith s b)) (sym (listed s f))
+    ∙ simp (
       flag-nonzero,
       mod-eq-of-lt (f .width),
       mod-eq-of-lt (f .height),

@@ -1,4 +1,5 @@
 // Reads the state of a check in parts from lent words, and stores it there.
+mod places;
 mod reading;
 mod storing;
 

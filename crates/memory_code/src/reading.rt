@@ -1,4 +1,5 @@
 // The state that words of memory stand for. Any content stands for one: numbers are cut to their width, and a flag is any word but 0.
+use crate::places;
 use batch::Lengths;
 use parts::State;
 use picture::Codes;
@@ -15,86 +16,94 @@ use progress::Stage;
 ghost use mathlib.Core.Path.{_≡_};
 ghost use Rattle.memory.specs.Memory.{storedStage, storedFrame, storedPicture, storedPosition, storedPrevious, storedExtents, storedProgress, storedLengths, storedBuffer, stateIn};
 
-fn stage_in(memory: &[u64; 99]) -> Stage
+fn stage_in(memory: &[u64; memory::WORDS]) -> Stage
     ensures { λ r. ⌜ r ≡ storedStage (now (memory .entry)) ⌝ }
 {
     Stage {
-        surfaced: memory[0] != 0,
-        pictured: memory[1] != 0,
-        grouped: memory[2] != 0,
-        in_group: memory[3] != 0,
-        group_start: memory[4] != 0,
-        in_slice: memory[5] != 0,
-        ended: memory[6] != 0,
+        surfaced: memory[places::SURFACED] != 0,
+        pictured: memory[places::PICTURED] != 0,
+        grouped: memory[places::GROUPED] != 0,
+        in_group: memory[places::IN_GROUP] != 0,
+        group_start: memory[places::GROUP_START] != 0,
+        in_slice: memory[places::IN_SLICE] != 0,
+        ended: memory[places::ENDED] != 0,
     }
 }
 
-fn frame_in(memory: &[u64; 99]) -> Frame
+fn frame_in(memory: &[u64; memory::WORDS]) -> Frame
     ensures { λ r. ⌜ r ≡ storedFrame (now (memory .entry)) ⌝ }
 {
     Frame {
-        width: (memory[7] % 65536) as u16,
-        height: (memory[8] % 65536) as u16,
+        width: (memory[places::WIDTH] % 65536) as u16,
+        height: (memory[places::HEIGHT] % 65536) as u16,
         surface: Surface {
-            pitch: (memory[9] % 4294967296) as u32,
-            chroma_row: (memory[10] % 65536) as u16,
+            pitch: (memory[places::PITCH] % 4294967296) as u32,
+            chroma_row: (memory[places::CHROMA_ROW] % 65536) as u16,
         },
     }
 }
 
-fn picture_in(memory: &[u64; 99]) -> Picture
+fn picture_in(memory: &[u64; memory::WORDS]) -> Picture
     ensures { λ r. ⌜ r ≡ storedPicture (now (memory .entry)) ⌝ }
 {
     Picture {
-        coding: (memory[11] % 256) as u8,
+        coding: (memory[places::CODING] % 256) as u8,
         forward: Codes {
-            x: (memory[12] % 256) as u8,
-            y: (memory[13] % 256) as u8,
+            x: (memory[places::FORWARD_X] % 256) as u8,
+            y: (memory[places::FORWARD_Y] % 256) as u8,
         },
         backward: Codes {
-            x: (memory[14] % 256) as u8,
-            y: (memory[15] % 256) as u8,
+            x: (memory[places::BACKWARD_X] % 256) as u8,
+            y: (memory[places::BACKWARD_Y] % 256) as u8,
         },
         grid: Grid {
-            columns: (memory[16] % 65536) as u16,
-            rows: (memory[17] % 65536) as u16,
+            columns: (memory[places::COLUMNS] % 65536) as u16,
+            rows: (memory[places::ROWS] % 65536) as u16,
         },
     }
 }
 
-fn position_in(memory: &[u64; 99]) -> Position
+fn position_in(memory: &[u64; memory::WORDS]) -> Position
     ensures { λ r. ⌜ r ≡ storedPosition (now (memory .entry)) ⌝ }
 {
     Position {
-        column: (memory[18] % 65536) as u16,
-        row: (memory[19] % 65536) as u16,
+        column: (memory[places::COLUMN] % 65536) as u16,
+        row: (memory[places::ROW] % 65536) as u16,
     }
 }
 
-fn previous_in(memory: &[u64; 99]) -> Previous
+fn previous_in(memory: &[u64; memory::WORDS]) -> Previous
     ensures { λ r. ⌜ r ≡ storedPrevious (now (memory .entry)) ⌝ }
 {
     Previous {
-        kind: (memory[20] % 256) as u8,
-        five: (memory[21] % 4294967296) as u32,
-        six: (memory[22] % 4294967296) as u32,
-        seven: (memory[23] % 4294967296) as u32,
-        eight: (memory[24] % 4294967296) as u32,
+        kind: (memory[places::KIND] % 256) as u8,
+        five: (memory[places::FIVE] % 4294967296) as u32,
+        six: (memory[places::SIX] % 4294967296) as u32,
+        seven: (memory[places::SEVEN] % 4294967296) as u32,
+        eight: (memory[places::EIGHT] % 4294967296) as u32,
     }
 }
 
-fn extents_in(memory: &[u64; 99]) -> Extents
+fn extents_in(memory: &[u64; memory::WORDS]) -> Extents
     ensures { λ r. ⌜ r ≡ storedExtents (now (memory .entry)) ⌝ }
 {
     Extents {
-        source: Extent { end: memory[25] },
-        reconstructed: Extent { end: memory[26] },
-        forward: Extent { end: memory[27] },
-        backward: Extent { end: memory[28] },
+        source: Extent {
+            end: memory[places::SOURCE_END],
+        },
+        reconstructed: Extent {
+            end: memory[places::RECONSTRUCTED_END],
+        },
+        forward: Extent {
+            end: memory[places::FORWARD_END],
+        },
+        backward: Extent {
+            end: memory[places::BACKWARD_END],
+        },
     }
 }
 
-fn progress_in(memory: &[u64; 99]) -> Progress
+fn progress_in(memory: &[u64; memory::WORDS]) -> Progress
     ensures { λ r. ⌜ r ≡ storedProgress (now (memory .entry)) ⌝ }
 {
     Progress {
@@ -107,31 +116,31 @@ fn progress_in(memory: &[u64; 99]) -> Progress
     }
 }
 
-fn lengths_in(memory: &[u64; 99]) -> Lengths
+fn lengths_in(memory: &[u64; memory::WORDS]) -> Lengths
     ensures { λ r. ⌜ r ≡ storedLengths (now (memory .entry)) ⌝ }
 {
     Lengths {
-        source: memory[34],
-        reconstructed: memory[35],
-        forward: memory[36],
-        backward: memory[37],
+        source: memory[places::SOURCE_LENGTH],
+        reconstructed: memory[places::RECONSTRUCTED_LENGTH],
+        forward: memory[places::FORWARD_LENGTH],
+        backward: memory[places::BACKWARD_LENGTH],
     }
 }
 
-fn buffer_in(memory: &[u64; 99]) -> [u32; 61]
+fn buffer_in(memory: &[u64; memory::WORDS]) -> [u32; places::BUFFER_WORDS]
     ensures { λ r. ⌜ r ≡ storedBuffer (now (memory .entry)) ⌝ }
 {
-    let mut buffer = [0u32; 61];
+    let mut buffer = [0u32; places::BUFFER_WORDS];
     let mut i = 0;
-    while i < 61 {
-        buffer[i] = (memory[38 + i] % 4294967296) as u32;
+    while i < places::BUFFER_WORDS {
+        buffer[i] = (memory[i] % 4294967296) as u32;
         i += 1;
     }
     buffer
 }
 
 // The whole state.
-pub fn state_in(memory: &[u64; 99]) -> State
+pub fn state_in(memory: &[u64; memory::WORDS]) -> State
     ensures { λ r. ⌜ r ≡ stateIn (now (memory .entry)) ⌝ }
 {
     let progress = progress_in(memory);
@@ -139,11 +148,11 @@ pub fn state_in(memory: &[u64; 99]) -> State
     let buffer = buffer_in(memory);
     State {
         progress,
-        at: (memory[29] % 4294967296) as u32,
-        held: memory[30] as usize,
-        stopped: memory[31] != 0,
-        number: (memory[32] % 256) as u8,
-        place: memory[33],
+        at: (memory[places::AT] % 4294967296) as u32,
+        held: memory[places::HELD] as usize,
+        stopped: memory[places::STOPPED] != 0,
+        number: (memory[places::NUMBER] % 256) as u8,
+        place: memory[places::PLACE],
         lengths,
         buffer,
     }

@@ -1,4 +1,5 @@
 // The words of memory that stand for a state.
+use crate::places;
 use batch::Lengths;
 use parts::State;
 use picture::Frame;
@@ -10,156 +11,118 @@ use progress::Progress;
 use progress::Stage;
 ghost use mathlib.Core.Path.{_≡_};
 ghost use mathlib.Core.List.{_++_};
-ghost use Prim.Native.Nat.{_+_, _≤_};
-ghost use lib.ListN.{length, take};
-ghost use Rattle.memory.specs.Memory.{stageWords, frameWords, pictureWords, positionWords, previousWords, extentsWords, progressWords, ownWords, lengthsWords, stateIn, stateWords};
+ghost use lib.ListN.{length, drop};
+ghost use Rattle.memory.specs.Memory.{stageFields, frameFields, pictureFields, positionFields, previousFields, extentsFields, progressFields, ownFields, lengthsFields, placed, stateIn, stateWords};
 
-fn stage_words(stage: Stage) -> [u64; 7]
-    ensures { λ r. ⌜ r ≡ stageWords stage ⌝ }
-{
-    [
-        stage.surfaced as u64,
-        stage.pictured as u64,
-        stage.grouped as u64,
-        stage.in_group as u64,
-        stage.group_start as u64,
-        stage.in_slice as u64,
-        stage.ended as u64,
-    ]
-}
-
-fn frame_words(frame: Frame) -> [u64; 4]
-    ensures { λ r. ⌜ r ≡ frameWords frame ⌝ }
-{
-    [
-        frame.width as u64,
-        frame.height as u64,
-        frame.surface.pitch as u64,
-        frame.surface.chroma_row as u64,
-    ]
-}
-
-fn picture_words(picture: Picture) -> [u64; 7]
-    ensures { λ r. ⌜ r ≡ pictureWords picture ⌝ }
-{
-    [
-        picture.coding as u64,
-        picture.forward.x as u64,
-        picture.forward.y as u64,
-        picture.backward.x as u64,
-        picture.backward.y as u64,
-        picture.grid.columns as u64,
-        picture.grid.rows as u64,
-    ]
-}
-
-fn position_words(position: Position) -> [u64; 2]
-    ensures { λ r. ⌜ r ≡ positionWords position ⌝ }
-{
-    [position.column as u64, position.row as u64]
-}
-
-fn previous_words(previous: Previous) -> [u64; 5]
-    ensures { λ r. ⌜ r ≡ previousWords previous ⌝ }
-{
-    [
-        previous.kind as u64,
-        previous.five as u64,
-        previous.six as u64,
-        previous.seven as u64,
-        previous.eight as u64,
-    ]
-}
-
-fn extents_words(extents: Extents) -> [u64; 4]
-    ensures { λ r. ⌜ r ≡ extentsWords extents ⌝ }
-{
-    [
-        extents.source.end,
-        extents.reconstructed.end,
-        extents.forward.end,
-        extents.backward.end,
-    ]
-}
-
-fn own_words(state: State) -> [u64; 5]
-    ensures { λ r. ⌜ r ≡ ownWords state ⌝ }
-{
-    [
-        state.at as u64,
-        state.held as u64,
-        state.stopped as u64,
-        state.number as u64,
-        state.place,
-    ]
-}
-
-fn lengths_words(lengths: Lengths) -> [u64; 4]
-    ensures { λ r. ⌜ r ≡ lengthsWords lengths ⌝ }
-{
-    [
-        lengths.source,
-        lengths.reconstructed,
-        lengths.forward,
-        lengths.backward,
-    ]
-}
-
-// Words behind the first `at` words of the memory.
-fn put(words: &[u64], at: usize, memory: &mut [u64; 99])
-    requires { ⌜ (at + length (now words) ≤ 99) × (length (now memory) ≡ 99) ⌝ }
-    ensures { λ _. ⌜ (take (at + length (now (words .entry))) (now (memory .exit)) ≡ take at (now (memory .entry)) ++ now (words .entry)) × (length (now (memory .exit)) ≡ 99) ⌝ }
+fn put_buffer(buffer: [u32; places::BUFFER_WORDS], memory: &mut [u64; memory::WORDS])
+    requires { ⌜ length (now memory) ≡ 128 ⌝ }
+    ensures { λ _. ⌜ now (memory .exit) ≡ buffer ++ drop 61 (now (memory .entry)) ⌝ }
 {
     let mut i = 0;
-    while i < words.len() {
-        memory[at + i] = words[i];
+    while i < places::BUFFER_WORDS {
+        memory[i] = buffer[i] as u64;
         i += 1;
     }
 }
 
-// The words of the buffer behind those of the fields.
-fn put_buffer(buffer: [u32; 61], memory: &mut [u64; 99])
-    requires { ⌜ length (now memory) ≡ 99 ⌝ }
-    ensures { λ _. ⌜ now (memory .exit) ≡ take 38 (now (memory .entry)) ++ buffer ⌝ }
+fn put_stage(stage: Stage, memory: &mut [u64; memory::WORDS])
+    ensures { λ _. ⌜ now (memory .exit) ≡ placed (stageFields stage) (now (memory .entry)) ⌝ }
 {
-    let mut i = 0;
-    while i < 61 {
-        memory[38 + i] = buffer[i] as u64;
-        i += 1;
-    }
+    memory[places::SURFACED] = stage.surfaced as u64;
+    memory[places::PICTURED] = stage.pictured as u64;
+    memory[places::GROUPED] = stage.grouped as u64;
+    memory[places::IN_GROUP] = stage.in_group as u64;
+    memory[places::GROUP_START] = stage.group_start as u64;
+    memory[places::IN_SLICE] = stage.in_slice as u64;
+    memory[places::ENDED] = stage.ended as u64;
 }
 
-// The words of the progress are the first.
-fn put_progress(progress: Progress, memory: &mut [u64; 99])
-    requires { ⌜ length (now memory) ≡ 99 ⌝ }
-    ensures { λ _. ⌜ (take 29 (now (memory .exit)) ≡ progressWords progress) × (length (now (memory .exit)) ≡ 99) ⌝ }
+fn put_frame(frame: Frame, memory: &mut [u64; memory::WORDS])
+    ensures { λ _. ⌜ now (memory .exit) ≡ placed (frameFields frame) (now (memory .entry)) ⌝ }
 {
-    let stage = stage_words(progress.stage);
-    put(&stage, 0, memory);
-    let frame = frame_words(progress.frame);
-    put(&frame, 7, memory);
-    let picture = picture_words(progress.picture);
-    put(&picture, 11, memory);
-    let position = position_words(progress.position);
-    put(&position, 18, memory);
-    let previous = previous_words(progress.previous);
-    put(&previous, 20, memory);
-    let extents = extents_words(progress.extents);
-    put(&extents, 25, memory);
+    memory[places::WIDTH] = frame.width as u64;
+    memory[places::HEIGHT] = frame.height as u64;
+    memory[places::PITCH] = frame.surface.pitch as u64;
+    memory[places::CHROMA_ROW] = frame.surface.chroma_row as u64;
+}
+
+fn put_picture(picture: Picture, memory: &mut [u64; memory::WORDS])
+    ensures { λ _. ⌜ now (memory .exit) ≡ placed (pictureFields picture) (now (memory .entry)) ⌝ }
+{
+    memory[places::CODING] = picture.coding as u64;
+    memory[places::FORWARD_X] = picture.forward.x as u64;
+    memory[places::FORWARD_Y] = picture.forward.y as u64;
+    memory[places::BACKWARD_X] = picture.backward.x as u64;
+    memory[places::BACKWARD_Y] = picture.backward.y as u64;
+    memory[places::COLUMNS] = picture.grid.columns as u64;
+    memory[places::ROWS] = picture.grid.rows as u64;
+}
+
+fn put_position(position: Position, memory: &mut [u64; memory::WORDS])
+    ensures { λ _. ⌜ now (memory .exit) ≡ placed (positionFields position) (now (memory .entry)) ⌝ }
+{
+    memory[places::COLUMN] = position.column as u64;
+    memory[places::ROW] = position.row as u64;
+}
+
+fn put_previous(previous: Previous, memory: &mut [u64; memory::WORDS])
+    ensures { λ _. ⌜ now (memory .exit) ≡ placed (previousFields previous) (now (memory .entry)) ⌝ }
+{
+    memory[places::KIND] = previous.kind as u64;
+    memory[places::FIVE] = previous.five as u64;
+    memory[places::SIX] = previous.six as u64;
+    memory[places::SEVEN] = previous.seven as u64;
+    memory[places::EIGHT] = previous.eight as u64;
+}
+
+fn put_extents(extents: Extents, memory: &mut [u64; memory::WORDS])
+    ensures { λ _. ⌜ now (memory .exit) ≡ placed (extentsFields extents) (now (memory .entry)) ⌝ }
+{
+    memory[places::SOURCE_END] = extents.source.end;
+    memory[places::RECONSTRUCTED_END] = extents.reconstructed.end;
+    memory[places::FORWARD_END] = extents.forward.end;
+    memory[places::BACKWARD_END] = extents.backward.end;
+}
+
+fn put_progress(progress: Progress, memory: &mut [u64; memory::WORDS])
+    ensures { λ _. ⌜ now (memory .exit) ≡ placed (progressFields progress) (now (memory .entry)) ⌝ }
+{
+    put_stage(progress.stage, memory);
+    put_frame(progress.frame, memory);
+    put_picture(progress.picture, memory);
+    put_position(progress.position, memory);
+    put_previous(progress.previous, memory);
+    put_extents(progress.extents, memory);
+}
+
+fn put_own(state: State, memory: &mut [u64; memory::WORDS])
+    ensures { λ _. ⌜ now (memory .exit) ≡ placed (ownFields state) (now (memory .entry)) ⌝ }
+{
+    memory[places::AT] = state.at as u64;
+    memory[places::HELD] = state.held as u64;
+    memory[places::STOPPED] = state.stopped as u64;
+    memory[places::NUMBER] = state.number as u64;
+    memory[places::PLACE] = state.place;
+}
+
+fn put_lengths(lengths: Lengths, memory: &mut [u64; memory::WORDS])
+    ensures { λ _. ⌜ now (memory .exit) ≡ placed (lengthsFields lengths) (now (memory .entry)) ⌝ }
+{
+    memory[places::SOURCE_LENGTH] = lengths.source;
+    memory[places::RECONSTRUCTED_LENGTH] = lengths.reconstructed;
+    memory[places::FORWARD_LENGTH] = lengths.forward;
+    memory[places::BACKWARD_LENGTH] = lengths.backward;
 }
 
 // The words of a state. They stand for it.
-pub fn state_words(state: State) -> [u64; 99]
+pub fn state_words(state: State) -> [u64; memory::WORDS]
     ensures { λ r. ⌜ (r ≡ stateWords state) × (stateIn r ≡ state) ⌝ }
 {
-    let mut memory = [0u64; 99];
-    let progress = state.progress;
-    put_progress(progress, &mut memory);
-    let own = own_words(state);
-    put(&own, 29, &mut memory);
-    let lengths = lengths_words(state.lengths);
-    put(&lengths, 34, &mut memory);
+    let mut memory = [0u64; memory::WORDS];
     let buffer = state.buffer;
     put_buffer(buffer, &mut memory);
+    put_progress(state.progress, &mut memory);
+    put_own(state, &mut memory);
+    put_lengths(state.lengths, &mut memory);
     memory
 }

@@ -4,7 +4,7 @@
 //!     1    the room that is lent
 //!     2    the lengths beside a batch
 //!     3    how a batch is parted
-//!     4..  the words, little-endian (of a record its bytes, of a state its 99 64-bit words and then a part)
+//!     4..  the words, little-endian (of a record its bytes, of a state its 128 64-bit words and then a part)
 
 use crate::compare::{Compare, Compared};
 use crate::interface::{Interface, STATE_WORDS};

@@ -27,7 +27,7 @@ struct CAnswer {
 }
 
 /// The words of a state.
-pub const STATE_WORDS: usize = 99;
+pub const STATE_WORDS: usize = 128;
 
 extern "C" {
     fn hromulice_check(words: *const u32, count: usize, lengths: CLengths) -> CReport;

@@ -4,7 +4,7 @@
 //! state, and writes nothing but what is lent as `&mut`.
 
 /// How many 64-bit words hold a check under way.
-pub const STATE_WORDS: usize = 99;
+pub const STATE_WORDS: usize = 128;
 
 #[repr(C)]
 #[derive(Clone, Copy)]

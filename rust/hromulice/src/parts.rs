@@ -8,7 +8,7 @@ use core::fmt;
 ///
 /// However the batch is cut, the answer after its last part is that of [`check`](crate::check) for all the words in order.
 /// Parts may have any length, none included; nothing of them is kept but at most 60 words of a command that is not
-/// complete. The whole check takes 792 bytes, and none on the heap.
+/// complete. The whole check takes 1024 bytes, and none on the heap.
 ///
 /// A driver that reads a batch from a ring or from a file hands over what it has:
 ///

@@ -77,5 +77,5 @@ fn shown() {
     check.hand_over(&P1[..5]);
     let shown = format!("{check:?}");
     assert!(shown.contains("WordsRunOut") && shown.contains("place: 5"), "{shown}");
-    assert_eq!(size_of::<Check>(), 792);
+    assert_eq!(size_of::<Check>(), 1024);
 }

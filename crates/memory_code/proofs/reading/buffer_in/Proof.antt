@@ -1,29 +1,25 @@
 -- `buffer_in`: the words of a buffer, each cut to 32 bits; the loop has read those before it.
-use mathlib.Core.List.{[]}
-use mathlib.Core.Path.{refl, _∙_, sym}
-use Prim.Native.Nat.{_+_, _-_}
-use native.Mathlib.Nat.{zero-add}
+use mathlib.Core.List.{append-nil}
+use mathlib.Core.Path.{_≡_, sym, ap, _∙_}
+use Prim.Native.Nat.{_-_, _≤_}
 use native.Mathlib.Omega.{arith}
 use borrow.Author.Needs.{needs}
-use lib.Seq.{take-all}
-use lib.ListN.{length}
+use lib.ListN.{take, replicate}
+use lib.Seq.{paste, paste-zero, take-all}
 use Rattle.memory.specs.Memory.{storedBuffer}
 use Rattle.memory.proofs.MemoryLaws.{buffer-length, buffer-at}
-use Rattle.memory_code.proofs.CopyLaws.{Copied, copied-one, copied-all}
+use Rattle.memory_code.proofs.CopyLaws.{copied-one}
 use Rattle.memory_code.proofs.reading.buffer_in.Statement.{statement}
 use Rattle.memory_code.proofs.reading.buffer_in.Tie as tie
 
 abbrev Inv-loop : tie.InvT-loop
-Inv-loop memory buffer₀ i₀ buffer i = Copied 61 [] 0 (storedBuffer memory) i buffer
+Inv-loop memory buffer₀ i₀ buffer i = (i ≤ 61) × (buffer ≡ paste buffer₀ 0 (storedBuffer memory) i)
 
 abbrev μ-loop : tie.MeasureT-loop
 μ-loop memory buffer₀ i₀ buffer i = 61 - i
 
 loop-holds : tie.Need-loop-holds Inv-loop μ-loop
-loop-holds c = (search needs, (refl, refl))
-
-add-buffer : tie.Need-add-buffer Inv-loop μ-loop
-add-buffer c = search needs
+loop-holds c = (omega arith, paste-zero (replicate 61 0) 0 (storedBuffer (c .args .memory .now)))
 
 mul-buffer : tie.Need-mul-buffer Inv-loop μ-loop
 mul-buffer c = search needs
@@ -50,14 +46,18 @@ loop-again : tie.Need-loop-again Inv-loop μ-loop
 loop-again c =
     let l = c .before .before .loop in
     let m = c .before .before .before .args .memory .now in
-    copied-one 61 [] 0 (storedBuffer m) (l .i) (l .buffer) (l .i) _ (omega (arith, buffer-length m)) (omega (arith, buffer-length m, c .before .loop-test .taken)) (sym (zero-add (l .i))) (sym (buffer-at m (l .i) (c .before .loop-test .taken))) (l .inv)
+    let more = c .before .loop-test .taken in
+    (search needs, copied-one (replicate 61 0) (storedBuffer m) (l .i) (l .buffer) _ more (omega (arith, buffer-length m)) (sym (buffer-at m (l .i) more)) (l .inv .1))
 
 returns : tie.Need-returns Inv-loop μ-loop
 returns c =
-    let m = c .before .before .args .memory .now in
     let l = c .before .loop in
-    sym (take-all (0 + length (storedBuffer m)) (l .buffer) (omega (arith, buffer-length m, l .inv .1 .0)))
-    ∙ copied-all 61 [] 0 (storedBuffer m) (l .i) (l .buffer) (omega (arith, buffer-length m, c .loop-test .left)) (l .inv)
+    let m = c .before .before .args .memory .now in
+    let e : l .i ≡ 61 = omega (arith, l .inv .0, c .loop-test .left) in
+    l .inv .1
+    ∙ ap (paste (replicate 61 0) 0 (storedBuffer m)) e
+    ∙ append-nil (take 61 (storedBuffer m))
+    ∙ take-all 61 (storedBuffer m) (omega (arith, buffer-length m))
 
 pub buffer-in-spec : {M : Type 1} → statement M
 buffer-in-spec =
@@ -66,7 +66,6 @@ buffer-in-spec =
     Inv-loop
     μ-loop
     loop-holds
-    add-buffer
     mul-buffer
     element-copy-out-buffer
     cast-buffer

@@ -1,21 +1,23 @@
--- `put_buffer`: the words of the buffer behind those of the fields.
-use mathlib.Core.Path.{refl, sym, _∙_}
-use Prim.Native.Nat.{_+_, _-_}
+-- `put_buffer`: the words of the buffer in place of the first; the loop has stored those before it.
+use mathlib.Core.List.{List, _++_}
+use mathlib.Core.Path.{_≡_, refl, ap, _∙_}
+use Prim.Native.Nat.{ℕ, _-_, _≤_}
+use native.Mathlib.Omega.{arith}
 use borrow.Author.Needs.{needs}
-use lib.ListN.{length, take}
-use lib.Seq.{take-all}
-use Rattle.memory_code.proofs.CopyLaws.{Copied, copied-none, copied-one, copied-all}
+use lib.ListN.{drop}
+use lib.Seq.{paste, paste-zero, take-all}
+use Rattle.memory_code.proofs.CopyLaws.{copied-one}
 use Rattle.memory_code.proofs.storing.put_buffer.Statement.{statement}
 use Rattle.memory_code.proofs.storing.put_buffer.Tie as tie
 
 abbrev Inv-loop : tie.InvT-loop
-Inv-loop memory₀ buffer i₀ memory i = Copied 99 (take 38 memory₀) 38 buffer i memory
+Inv-loop memory₀ buffer i₀ memory i = (i ≤ 61) × (memory ≡ paste memory₀ 0 buffer i)
 
 abbrev μ-loop : tie.MeasureT-loop
 μ-loop memory₀ buffer i₀ memory i = 61 - i
 
 loop-holds : tie.Need-loop-holds Inv-loop μ-loop
-loop-holds c = copied-none 99 38 (c .args .t1) (c .args .memory .now) (c .pre)
+loop-holds c = (omega arith, paste-zero (c .args .memory .now) 0 (c .args .t1))
 
 mul-memory : tie.Need-mul-memory Inv-loop μ-loop
 mul-memory c = search needs
@@ -25,9 +27,6 @@ array-read-memory c = search needs
 
 cast-memory : tie.Need-cast-memory Inv-loop μ-loop
 cast-memory c = search needs
-
-add-memory : tie.Need-add-memory Inv-loop μ-loop
-add-memory c = search needs
 
 mul-memory-2 : tie.Need-mul-memory-2 Inv-loop μ-loop
 mul-memory-2 c = search needs
@@ -44,15 +43,17 @@ loop-less c = search needs
 loop-again : tie.Need-loop-again Inv-loop μ-loop
 loop-again c =
     let l = c .before .loop in
-    let s = c .before .before in
-    copied-one 99 (take 38 (s .args .memory .now)) 38 (s .args .t1) (l .i) (l .memory) _ _ (search needs) (search needs) refl refl (l .inv)
+    let a = c .before .before .args in
+    (search needs, copied-one (a .memory .now) (a .t1) (l .i) (l .memory) _ (search needs) (search needs) refl (l .inv .1))
 
 returns : tie.Need-returns Inv-loop μ-loop
 returns c =
     let l = c .before .loop in
-    let s = c .before .before in
-    let all = copied-all 99 (take 38 (s .args .memory .now)) 38 (s .args .t1) (l .i) (l .memory) (search needs) (l .inv) in
-    sym (take-all (38 + length (s .args .t1)) (l .memory) (search needs)) ∙ all
+    let a = c .before .before .args in
+    let e : l .i ≡ 61 = omega (arith, l .inv .0, c .loop-test .left) in
+    l .inv .1
+    ∙ ap (paste (a .memory .now) 0 (a .t1)) e
+    ∙ ap (λ (b : List ℕ). b ++ drop 61 (a .memory .now)) (take-all 61 (a .t1) (search needs))
 
 pub put-buffer-spec : {M : Type 1} → statement M
 put-buffer-spec =
@@ -64,7 +65,6 @@ put-buffer-spec =
     mul-memory
     array-read-memory
     cast-memory
-    add-memory
     mul-memory-2
     element-write-memory
     add-i

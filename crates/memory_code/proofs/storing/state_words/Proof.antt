@@ -1,38 +1,24 @@
 -- `state_words`: the words of a state.
 use mir.Syntax.{w32}
-use mathlib.Core.List.{List, _++_}
 use mathlib.Core.Path.{_≡_, ap, _∙_}
 use Prim.Native.Nat.{ℕ}
 use borrow.Author.Needs.{needs, length-unmapped, elem-fits-field}
-use Rattle.memory.specs.Memory.{ownWords, lengthsWords, stateIn, stateWords}
-use Rattle.memory_code.proofs.CopyLaws.{behind}
+use Rattle.memory.specs.Memory.{stateIn, stateWords}
 use Rattle.memory.proofs.MemoryLaws.{Fitting, stored-read}
 use Rattle.memory_code.proofs.storing.state_words.Statement.{statement}
 use Rattle.memory_code.proofs.storing.state_words.Tie as tie
 
+put-buffer-requires : tie.Need-put-buffer-requires
+put-buffer-requires c κs = search needs
+
 put-progress-requires : tie.Need-put-progress-requires
 put-progress-requires c κs = search needs
 
-own-words-requires : tie.Need-own-words-requires
-own-words-requires c κs = search needs
+put-own-requires : tie.Need-put-own-requires
+put-own-requires c κs = search needs
 
-slice-aggregate-put : tie.Need-slice-aggregate-put
-slice-aggregate-put c = search needs
-
-put-requires : tie.Need-put-requires
-put-requires c κs = search needs
-
-lengths-words-requires : tie.Need-lengths-words-requires
-lengths-words-requires c κs = search needs
-
-slice-aggregate-put-2 : tie.Need-slice-aggregate-put-2
-slice-aggregate-put-2 c = search needs
-
-put-requires-2 : tie.Need-put-requires-2
-put-requires-2 c κs = search needs
-
-put-buffer-requires : tie.Need-put-buffer-requires
-put-buffer-requires c κs = search needs
+put-lengths-requires : tie.Need-put-lengths-requires
+put-lengths-requires c κs = search needs
 
 -- The state is a value of its type: what owning the parameter tells of its fields, in the order of declaration.
 fitting : (c : tie.Start) → Fitting (c .args .state)
@@ -76,26 +62,20 @@ fitting c =
 returns : tie.Need-returns
 unfolding stateWords
 returns c =
-    let c2 = c .before .before .before in
-    let c1 = c2 .before .before .before .before in
-    let c0 = c1 .before .before .before .before in
-    let start = c0 .before .before .before in
+    let own = c .before .before in
+    let progress = own .before .before in
+    let buffer = progress .before .before in
+    let start = buffer .before .before .before in
     let s = start .args .state in
-    let own = behind 29 _ _ (ownWords s) (c0 .put-progress .last .1 .0) _ (c1 .before .before .before .own-words .ensures) (c1 .put .ensures .0) (c0 .put-progress .ensures .0) in
-    let lengths = behind 34 _ _ (lengthsWords (s .lengths)) (c1 .put .last .1 .1 .0) _ (c2 .before .before .before .lengths-words .ensures) (c2 .put2 .ensures .0) own in
-    let words : c .put-buffer .last .1 .0 ≡ stateWords s = c .put-buffer .ensures ∙ ap (λ (front : List ℕ). front ++ s .buffer) lengths in
+    let words : c .put-lengths .last .1 .0 ≡ stateWords s = simp (c .put-lengths .ensures, own .put-own .ensures, progress .put-progress .ensures, buffer .put-buffer .ensures) in
     (words, ap stateIn words ∙ stored-read s (fitting start))
 
 pub state-words-spec : {M : Type 1} → statement M
 state-words-spec =
     tie.close
     (tie.spec
-    put-progress-requires
-    own-words-requires
-    slice-aggregate-put
-    put-requires
-    lengths-words-requires
-    slice-aggregate-put-2
-    put-requires-2
     put-buffer-requires
+    put-progress-requires
+    put-own-requires
+    put-lengths-requires
     returns)
