@@ -8,16 +8,16 @@ use lib.ListN.{length, getD}
 use Rattle.prediction.specs.Extents.{Exact}
 use Rattle.prediction.specs.declared.Extent.{Extent}
 use Rattle.progress.specs.Buffers.{Buffer, source, reconstructed, forward, backward, bufferNumber, extentOf}
-use Rattle.progress.specs.declared.Extents.{Extents}
 use Rattle.progress.specs.declared.Progress.{Progress}
 use Rattle.progress.specs.declared.Verdict.{Verdict}
 use Rattle.progress.specs.declared.Verdict.the-variants.{Next, Stop}
 use Rattle.batch.specs.Demand.{KeepsOthers, IsLength, reportedFor, TooShort, AllEnough, NamesLowest, Demand3, Checked}
-use Rattle.batch.specs.Reports.{reportNumber, reportPlace, lengthsIn, reportedOf, measured, concluding, verdictOf, report}
+use Rattle.batch.specs.Reports.{reportNumber, reportPlace, reportable, lengthIn, valuesOf, reportedOf, measured, concluding, verdictOf, report}
 use Rattle.batch.specs.Touched.{Touched}
 use Rattle.batch.specs.declared.Lengths.{Lengths}
 use Rattle.batch.specs.declared.Report.{Report}
 use Rattle.batch.specs.declared.Report.the-variants.{Accepted, Short}
+use Rattle.batch.specs.declared.Reported.{Reported}
 use Rattle.batch.proofs.Exactness.{touched-exact}
 use Rattle.batch.proofs.Measuring.{Outcome, enough, short, outcome}
 use Rattle.batch.proofs.Numbers.{verdict-numbers}
@@ -40,7 +40,7 @@ kept-verdict l ws k = by (verdictOf ws) refl k
         broken (inl h) = k .none-to-12 (h .0) (h .1)
         broken (inr h) = k .not-27 h
 
-verdict-measured : (ws : List ℕ) (p : Progress) → verdictOf ws ≡ Next p → (l : Lengths) → report l ws ≡ measured (p .extents) l
+verdict-measured : (ws : List ℕ) (p : Progress) → verdictOf ws ≡ Next p → (l : Lengths) → report l ws ≡ measured (reportable p) l
 unfolding report
 verdict-measured ws p v l = ap (concluding l) v
 
@@ -57,71 +57,71 @@ exact-length {T} e x = by (e .end) refl
 
 -- What an operation makes of the answer to the whole batch: it leaves a refusal by 13 as it is, and may refuse an accepted batch by 14,
 -- for want of room.
-abbrev pub Accepts : Type 0 → Extents → Report → Type 0
-Accepts Room e r = (r ≡ Accepted e) ⊎ ((Room → ⊥) × (needed : ℕ) × (r ≡ Short 14 needed e))
+abbrev pub Accepts : Type 0 → Reported → Report → Type 0
+Accepts Room v r = (r ≡ Accepted v) ⊎ ((Room → ⊥) × (needed : ℕ) × (r ≡ Short 14 needed v))
 
 pub record Settles (Room : Type 0) (settle : Report → Report) : Type 0 where
-  pub keeps-13 : (place : ℕ) (e : Extents) → settle (Short 13 place e) ≡ Short 13 place e
-  pub accepts : (e : Extents) → Accepts Room e (settle (Accepted e))
+  pub keeps-13 : (place : ℕ) (v : Reported) → settle (Short 13 place v) ≡ Short 13 place v
+  pub accepts : (v : Reported) → Accepts Room v (settle (Accepted v))
 
 -- the check itself
 pub settles-nothing : Settles (Unit {0}) (λ r. r)
-settles-nothing = record { keeps-13 = λ place e. refl; accepts = λ e. inl refl }
+settles-nothing = record { keeps-13 = λ place v. refl; accepts = λ v. inl refl }
 
-reported-for : (e : Extents) (r : Report) (b : Buffer) → reportedOf r ≡ lengthsIn e → reportedFor b r ≡ extentOf b e .end
-reported-for e r b h = ap (λ (n : List ℕ). getD n (bufferNumber b) 0) h ∙ by b
+reported-for : (v : Reported) (r : Report) (b : Buffer) → reportedOf r ≡ valuesOf v → reportedFor b r ≡ lengthIn b v
+reported-for v r b h = ap (λ (n : List ℕ). getD n (bufferNumber b) 0) h ∙ by b
   where
-    by : (b : Buffer) → getD (lengthsIn e) (bufferNumber b) 0 ≡ extentOf b e .end
+    by : (b : Buffer) → getD (valuesOf v) (bufferNumber b) 0 ≡ lengthIn b v
     by source = refl
     by reconstructed = refl
     by forward = refl
     by backward = refl
 
-module _ (ws : List ℕ) (e : Extents) (Room : Type 0) (settle : Report → Report) (settles : Settles Room settle) (l : Lengths) (r : Report) (is : r ≡ settle (measured e l)) where
-  -- the lengths that are reported
-  reports : reportedOf r ≡ lengthsIn e
-  reports = by (outcome e l)
+module _ (ws : List ℕ) (v : Reported) (Room : Type 0) (settle : Report → Report) (settles : Settles Room settle) (l : Lengths) (r : Report) (is : r ≡ settle (measured v l)) where
+  -- what is reported
+  reports : reportedOf r ≡ valuesOf v
+  reports = by (outcome v l)
     where
-      room : Accepts Room e (settle (Accepted e)) → measured e l ≡ Accepted e → reportedOf r ≡ lengthsIn e
+      room : Accepts Room v (settle (Accepted v)) → measured v l ≡ Accepted v → reportedOf r ≡ valuesOf v
       room (inl s) m = ap reportedOf (is ∙ ap settle m ∙ s)
       room (inr s) m = ap reportedOf (is ∙ ap settle m ∙ s .2)
 
-      by : Outcome e l → reportedOf r ≡ lengthsIn e
-      by (enough all m) = room (settles .accepts e) m
-      by (short c s low m) = ap reportedOf (is ∙ ap settle m ∙ settles .keeps-13 (bufferNumber c) e)
+      by : Outcome v l → reportedOf r ≡ valuesOf v
+      by (enough all m) = room (settles .accepts v) m
+      by (short c s low m) = ap reportedOf (is ∙ ap settle m ∙ settles .keeps-13 (bufferNumber c) v)
 
-  for : (b : Buffer) → reportedFor b r ≡ extentOf b e .end
-  for b = reported-for e r b reports
+  for : (b : Buffer) → reportedFor b r ≡ lengthIn b v
+  for b = reported-for v r b reports
 
   -- every buffer is long enough, and nothing else is refused
-  all-long : AllEnough r l → r ≡ settle (Accepted e)
-  all-long h = by (outcome e l)
+  all-long : AllEnough r l → r ≡ settle (Accepted v)
+  all-long h = by (outcome v l)
     where
-      by : Outcome e l → r ≡ settle (Accepted e)
+      by : Outcome v l → r ≡ settle (Accepted v)
       by (enough all m) = is ∙ ap settle m
       by (short c s low m) = absurd (let k = h c in let f = for c in omega arith)
 
   passing : Room → AllEnough r l → reportNumber r ≡ 0
-  passing room h = by (settles .accepts e)
+  passing room h = by (settles .accepts v)
     where
-      by : Accepts Room e (settle (Accepted e)) → reportNumber r ≡ 0
+      by : Accepts Room v (settle (Accepted v)) → reportNumber r ≡ 0
       by (inl s) = ap reportNumber (all-long h ∙ s)
       by (inr s) = absurd (s .0 room)
 
   only : reportNumber r ≡ 0 → AllEnough r l
-  only passed = by (outcome e l)
+  only passed = by (outcome v l)
     where
-      by : Outcome e l → AllEnough r l
+      by : Outcome v l → AllEnough r l
       by (enough all m) = λ b. let k = all b in let f = for b in omega arith
-      by (short c s low m) = absurd (let n = ap reportNumber (is ∙ ap settle m ∙ settles .keeps-13 (bufferNumber c) e) in omega (arith, n, passed))
+      by (short c s low m) = absurd (let n = ap reportNumber (is ∙ ap settle m ∙ settles .keeps-13 (bufferNumber c) v) in omega (arith, n, passed))
 
   names : (b : Buffer) → TooShort r l b → NamesLowest r l
-  names b t = by (outcome e l)
+  names b t = by (outcome v l)
     where
-      by : Outcome e l → NamesLowest r l
+      by : Outcome v l → NamesLowest r l
       by (enough all m) = absurd (let k = all b in let f = for b in omega arith)
       by (short c s low m) =
-          let q = is ∙ ap settle m ∙ settles .keeps-13 (bufferNumber c) e in
+          let q = is ∙ ap settle m ∙ settles .keeps-13 (bufferNumber c) v in
           record {
             is-13 = ap reportNumber q;
             named = c;
@@ -136,26 +136,26 @@ pub demand-by : (ws : List ℕ) (Room : Type 0) (settle : Report → Report) →
     → (l₀ : Lengths) → KeepsOthers (report l₀ ws) → Demand3 ws Room Answers
 demand-by ws Room settle settles Answers answers l₀ kept =
     record {
-      exact = λ l r a b. subst (IsLength (Touched ws b)) (sym (for ws e Room settle settles l r (is l r a) b)) (exact-length (extentOf b e) (exactly b));
-      passes = λ l r a. passing ws e Room settle settles l r (is l r a);
-      only-then = λ l r a. only ws e Room settle settles l r (is l r a);
-      one-less = λ l r a b byte t h passed. absurd (let n = names ws e Room settle settles l r (is l r a) b (omega (arith, h)) .is-13 in omega (arith, n, passed));
-      lowest-named = λ l r a. names ws e Room settle settles l r (is l r a);
-      same-lengths = λ l k r q a c. reports ws e Room settle settles l r (is l r a) ∙ sym (reports ws e Room settle settles k q (is k q c));
-      same-answer = λ l k r q a c h i. all-long ws e Room settle settles l r (is l r a) h ∙ sym (all-long ws e Room settle settles k q (is k q c) i);
+      exact = λ l r a b. subst (IsLength (Touched ws b)) (sym (for ws v Room settle settles l r (is l r a) b)) (exact-length (extentOf b (v .extents)) (exactly b));
+      passes = λ l r a. passing ws v Room settle settles l r (is l r a);
+      only-then = λ l r a. only ws v Room settle settles l r (is l r a);
+      one-less = λ l r a b byte t h passed. absurd (let n = names ws v Room settle settles l r (is l r a) b (omega (arith, h)) .is-13 in omega (arith, n, passed));
+      lowest-named = λ l r a. names ws v Room settle settles l r (is l r a);
+      same-lengths = λ l k r q a c. reports ws v Room settle settles l r (is l r a) ∙ sym (reports ws v Room settle settles k q (is k q c));
+      same-answer = λ l k r q a c h i. all-long ws v Room settle settles l r (is l r a) h ∙ sym (all-long ws v Room settle settles k q (is k q c) i);
     }
   where
-    v : (p : Progress) × (verdictOf ws ≡ Next p)
-    v = kept-verdict l₀ ws kept
+    ended : (p : Progress) × (verdictOf ws ≡ Next p)
+    ended = kept-verdict l₀ ws kept
 
-    e : Extents
-    e = v .0 .extents
+    v : Reported
+    v = reportable (ended .0)
 
-    is : (l : Lengths) (r : Report) → Answers l r → r ≡ settle (measured e l)
-    is l r a = answers l r a ∙ ap settle (verdict-measured ws (v .0) (v .1) l)
+    is : (l : Lengths) (r : Report) → Answers l r → r ≡ settle (measured v l)
+    is l r a = answers l r a ∙ ap settle (verdict-measured ws (ended .0) (ended .1) l)
 
-    exactly : (b : Buffer) → Exact (Touched ws b) (extentOf b e)
-    exactly b = let w = gone-through ws (v .0) (v .1) in touched-exact b ws (w .0) (v .0) (w .1) (w .2)
+    exactly : (b : Buffer) → Exact (Touched ws b) (extentOf b (v .extents))
+    exactly b = let w = gone-through ws (ended .0) (ended .1) in touched-exact b ws (w .0) (ended .0) (w .1) (w .2)
 
 -- Demand 3 of the check whole: "Take any batch that keeps every rule but the one on buffer length, and any four buffer lengths beside
 -- it." That it keeps them is asked under some lengths, and the claims hold under all.

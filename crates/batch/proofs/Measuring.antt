@@ -8,24 +8,24 @@ use borrow.Author.Tests.{leb-true, leb-false}
 use lib.Dec.{leb}
 use Rattle.answers.specs.Answers.{Rule, rule}
 use Rattle.answers.proofs.Judging.{firstBroken, in-order}
-use Rattle.progress.specs.Buffers.{Buffer, source, reconstructed, forward, backward, bufferNumber, extentOf}
-use Rattle.progress.specs.declared.Extents.{Extents}
-use Rattle.batch.specs.Reports.{lengthOf, bufferRules, reporting, measured}
+use Rattle.progress.specs.Buffers.{Buffer, source, reconstructed, forward, backward, bufferNumber}
+use Rattle.batch.specs.Reports.{lengthIn, lengthOf, bufferRules, reporting, measured}
 use Rattle.batch.specs.declared.Lengths.{Lengths}
 use Rattle.batch.specs.declared.Report.the-variants.{Accepted, Short}
+use Rattle.batch.specs.declared.Reported.{Reported}
 
 -- All buffers are long enough, or one is the lowest that is not.
-pub data Outcome (e : Extents) (l : Lengths) : Type 0 where
-  enough : ((b : Buffer) → extentOf b e .end ≤ lengthOf b l) → measured e l ≡ Accepted e → Outcome e l
-  short : (c : Buffer) → lengthOf c l < extentOf c e .end → ((b : Buffer) → bufferNumber b < bufferNumber c → extentOf b e .end ≤ lengthOf b l)
-      → measured e l ≡ Short 13 (bufferNumber c) e → Outcome e l
+pub data Outcome (r : Reported) (l : Lengths) : Type 0 where
+  enough : ((b : Buffer) → lengthIn b r ≤ lengthOf b l) → measured r l ≡ Accepted r → Outcome r l
+  short : (c : Buffer) → lengthOf c l < lengthIn c r → ((b : Buffer) → bufferNumber b < bufferNumber c → lengthIn b r ≤ lengthOf b l)
+      → measured r l ≡ Short 13 (bufferNumber c) r → Outcome r l
 
-module _ (e : Extents) (l : Lengths) where
+module _ (reported : Reported) (l : Lengths) where
   abbrev Long : Buffer → Type 0
-  Long b = extentOf b e .end ≤ lengthOf b l
+  Long b = lengthIn b reported ≤ lengthOf b l
 
   abbrev long : Buffer → Bool
-  long b = leb (extentOf b e .end) (lengthOf b l)
+  long b = leb (lengthIn b reported) (lengthOf b l)
 
   below-1 : Long source → (b : Buffer) → bufferNumber b < 1 → Long b
   below-1 s source h = s
@@ -55,20 +55,20 @@ module _ (e : Extents) (l : Lengths) where
   abbrev turns : Bool → Bool → Bool → Bool → List Rule
   turns s r f k = rule 13 0 s ∷ rule 13 1 r ∷ rule 13 2 f ∷ rule 13 3 k ∷ []
 
-  in-turn : measured e l ≡ reporting e (firstBroken (turns (long source) (long reconstructed) (long forward) (long backward)))
+  in-turn : measured reported l ≡ reporting reported (firstBroken (turns (long source) (long reconstructed) (long forward) (long backward)))
   unfolding measured bufferRules
-  in-turn = ap (reporting e) (in-order (bufferRules e l) tt)
+  in-turn = ap (reporting reported) (in-order (bufferRules (reported .extents) l) tt)
 
-  pub outcome : Outcome e l
+  pub outcome : Outcome reported l
   outcome = by (long source) (long reconstructed) (long forward) (long backward) refl refl refl refl
     where
       yes : (b : Buffer) → long b ≡ true → Long b
-      yes b h = leb-true (extentOf b e .end) (lengthOf b l) h
+      yes b h = leb-true (lengthIn b reported) (lengthOf b l) h
 
-      not-so : (b : Buffer) → long b ≡ false → lengthOf b l < extentOf b e .end
-      not-so b h = leb-false (extentOf b e .end) (lengthOf b l) h
+      not-so : (b : Buffer) → long b ≡ false → lengthOf b l < lengthIn b reported
+      not-so b h = leb-false (lengthIn b reported) (lengthOf b l) h
 
-      by : (s r f k : Bool) → long source ≡ s → long reconstructed ≡ r → long forward ≡ f → long backward ≡ k → Outcome e l
+      by : (s r f k : Bool) → long source ≡ s → long reconstructed ≡ r → long forward ≡ f → long backward ≡ k → Outcome reported l
       by false r f k es er ef ek = short source (not-so source es) (λ b h. absurd (omega arith)) (in-turn ∙ simp es)
       by true false f k es er ef ek = short reconstructed (not-so reconstructed er) (below-1 (yes source es)) (in-turn ∙ simp (es, er))
       by true true false k es er ef ek = short forward (not-so forward ef) (below-2 (yes source es) (yes reconstructed er)) (in-turn ∙ simp (es, er, ef))

@@ -10,16 +10,16 @@ use lib.ListN.{length}
 use Rattle.headers.specs.Headers.{headerOf, wordsIn}
 use Rattle.headers.specs.Words.{wordAt}
 use Rattle.headers.specs.declared.Header.{Header}
-use Rattle.progress.specs.declared.Extents.{Extents}
 use Rattle.progress.specs.declared.Progress.{Progress}
 use Rattle.progress.specs.declared.Verdict.{Verdict}
 use Rattle.progress.specs.declared.Verdict.the-variants.{Next, Stop}
 use Rattle.sequence.specs.Judging.{judge}
 use Rattle.sequence.proofs.JudgingLaws.{stops-within}
-use Rattle.batch.specs.Reports.{reportNumber, measured, ending, concluding, verdictOf, report}
+use Rattle.batch.specs.Reports.{reportNumber, reportable, measured, ending, concluding, verdictOf, report}
 use Rattle.batch.specs.Walk.{Walk, going, stopped, limit, after, step, start}
 use Rattle.batch.specs.declared.Lengths.{Lengths}
 use Rattle.batch.specs.declared.Report.the-variants as answers
+use Rattle.batch.specs.declared.Reported.{Reported}
 use Rattle.batch.proofs.Measuring.{Outcome, enough, short, outcome}
 
 -- the numbers with which a walk stops
@@ -81,18 +81,18 @@ verdict-numbers ws n place e = by (foldl step start ws) (numbered-fold start ws 
     by (going at p g) k e = lacks p (at + length g) (p .stage .ended) e
 
 -- A batch is accepted by number 0 alone.
-pub accepted-by-0 : (l : Lengths) (ws : List ℕ) → reportNumber (report l ws) ≡ 0 → (e : Extents) × (report l ws ≡ answers.Accepted e)
+pub accepted-by-0 : (l : Lengths) (ws : List ℕ) → reportNumber (report l ws) ≡ 0 → (r : Reported) × (report l ws ≡ answers.Accepted r)
 unfolding report
 accepted-by-0 l ws h = by (verdictOf ws) refl h
   where
-    measured-0 : (e : Extents) → Outcome e l → reportNumber (measured e l) ≡ 0 → (x : Extents) × (measured e l ≡ answers.Accepted x)
-    measured-0 e (enough all a) h = (e, a)
-    measured-0 e (short c s low a) h = let z : _≡_ {A = ℕ} 13 0 = sym (ap reportNumber a) ∙ h in absurd (omega arith)
+    measured-0 : (r : Reported) → Outcome r l → reportNumber (measured r l) ≡ 0 → (x : Reported) × (measured r l ≡ answers.Accepted x)
+    measured-0 r (enough all a) h = (r, a)
+    measured-0 r (short c s low a) h = let z : _≡_ {A = ℕ} 13 0 = sym (ap reportNumber a) ∙ h in absurd (omega arith)
 
     stopped-0 : (n : ℕ) → StopNumber n → n ≡ 0 → ⊥
     stopped-0 n (inl k) h = let low = k .0 in omega arith
     stopped-0 n (inr k) h = omega arith
 
-    by : (v : Verdict) → verdictOf ws ≡ v → reportNumber (concluding l v) ≡ 0 → (e : Extents) × (concluding l v ≡ answers.Accepted e)
-    by (Next p) s h = measured-0 (p .extents) (outcome (p .extents) l) h
+    by : (v : Verdict) → verdictOf ws ≡ v → reportNumber (concluding l v) ≡ 0 → (r : Reported) × (concluding l v ≡ answers.Accepted r)
+    by (Next p) s h = measured-0 (reportable p) (outcome (reportable p) l) h
     by (Stop n place) s h = absurd (stopped-0 n (verdict-numbers ws n place s) h)

@@ -1,7 +1,7 @@
--- What the checker answers, in document 01's numbers, places and lengths.
+-- What the checker answers: document 01's number and place, and what it reports.
 use Prim.Native.Nat.{ℕ, _+_}
 use mathlib.Core.Bool.{cond}
-use mathlib.Core.List.{List, [], _∷_, foldl, map}
+use mathlib.Core.List.{List, foldl, map}
 use lib.Dec.{leb}
 use lib.ListN.{length}
 use Rattle.answers.specs.Answers.{Rule, rule, judged}
@@ -9,33 +9,45 @@ use Rattle.answers.specs.declared.Answer.{Answer}
 use Rattle.answers.specs.declared.Answer.the-variants.{Accepted, Refused}
 use Rattle.progress.specs.Buffers.{Buffer, source, reconstructed, forward, backward, bufferNumber, buffers, extentOf}
 use Rattle.progress.specs.declared.Extents.{Extents}
+use Rattle.progress.specs.declared.Progress.{Progress}
 use Rattle.progress.specs.declared.Verdict.{Verdict}
 use Rattle.progress.specs.declared.Verdict.the-variants.{Next, Stop}
 use Rattle.batch.specs.declared.Lengths.{Lengths}
 use Rattle.batch.specs.declared.Report.{Report}
+use Rattle.batch.specs.declared.Reported.{Reported}
 use Rattle.batch.specs.declared.Report.the-variants as answers
 use Rattle.batch.specs.Walk.{Walk, going, stopped, step, start}
 
 -- Document 01's number and place of each answer. "0 accepted: place 0".
 abbrev pub reportNumber : Report → ℕ
-reportNumber (answers.Accepted e) = 0
-reportNumber (answers.Short n place e) = n
+reportNumber (answers.Accepted r) = 0
+reportNumber (answers.Short n place r) = n
 reportNumber (answers.Refused n place) = n
 
 abbrev pub reportPlace : Report → ℕ
-reportPlace (answers.Accepted e) = 0
-reportPlace (answers.Short n place e) = place
+reportPlace (answers.Accepted r) = 0
+reportPlace (answers.Short n place r) = place
 reportPlace (answers.Refused n place) = place
 
--- The four lengths, in the order of the buffers.
-abbrev pub lengthsIn : Extents → List ℕ
-lengthsIn e = map (λ b. extentOf b e .end) buffers
+-- What is reported of a batch that has come so far with END, and the length of a buffer in it.
+abbrev pub reportable : Progress → Reported
+reportable p = record { extents = p .extents }
+
+abbrev pub lengthIn : Buffer → Reported → ℕ
+lengthIn b r = extentOf b (r .extents) .end
+
+-- The numbers that are reported, in the order in which they are printed: the four lengths, in the order of the buffers.
+abbrev pub values : List (Reported → ℕ)
+values = map lengthIn buffers
+
+abbrev pub valuesOf : Reported → List ℕ
+valuesOf r = map (λ value. value r) values
 
 -- "The four lengths are reported with 0, 13 and 14, else zeros."
 abbrev pub reportedOf : Report → List ℕ
-reportedOf (answers.Accepted e) = lengthsIn e
-reportedOf (answers.Short n place e) = lengthsIn e
-reportedOf (answers.Refused n place) = 0 ∷ 0 ∷ 0 ∷ 0 ∷ []
+reportedOf (answers.Accepted r) = valuesOf r
+reportedOf (answers.Short n place r) = valuesOf r
+reportedOf (answers.Refused n place) = map (λ value. 0) values
 
 -- How long a buffer is.
 abbrev pub lengthOf : Buffer → Lengths → ℕ
@@ -48,13 +60,13 @@ lengthOf backward l = l .backward
 unfoldable pub bufferRules : Extents → Lengths → List Rule
 bufferRules e l = map (λ b. rule 13 (bufferNumber b) (leb (extentOf b e .end) (lengthOf b l))) buffers
 
--- What is answered with what is touched.
-abbrev pub reporting : Extents → Answer → Report
-reporting e Accepted = answers.Accepted e
-reporting e (Refused n place) = answers.Short n place e
+-- What is answered with what is reported.
+abbrev pub reporting : Reported → Answer → Report
+reporting r Accepted = answers.Accepted r
+reporting r (Refused n place) = answers.Short n place r
 
-unfoldable pub measured : Extents → Lengths → Report
-measured e l = reporting e (judged (bufferRules e l))
+unfoldable pub measured : Reported → Lengths → Report
+measured r l = reporting r (judged (bufferRules (r .extents) l))
 
 -- The buffers apart: the first rule that is broken, or how far the batch had come with END. "1 words run out in a command or before
 -- END: words given".
@@ -64,7 +76,7 @@ ending (going at p g) = cond (p .stage .ended) (Next p) (Stop 1 (at + length g))
 
 -- "13 comes after the whole batch".
 abbrev pub concluding : Lengths → Verdict → Report
-concluding l (Next p) = measured (p .extents) l
+concluding l (Next p) = measured (reportable p) l
 concluding l (Stop n place) = answers.Refused n place
 
 unfoldable pub finish : Lengths → Walk → Report

@@ -11,11 +11,19 @@ pub struct Lengths {
     pub backward: u64,
 }
 
-// What the checker answers: accepted; refused because lent memory is too short (number and place); both with what is touched,
-// whose ends are document 01's four lengths; or refused by another rule (number and place), with no lengths.
+// What is reported of a batch that keeps every rule but the one on buffer length: what it touches of each buffer.
+pub struct Reported {
+    pub extents: Extents,
+}
+
+// As how many numbers: document 01's four lengths.
+pub const VALUES: usize = 4;
+
+// What the checker answers: accepted; refused because lent memory is too short (number and place), both with what is reported; or
+// refused by another rule (number and place), with nothing.
 pub enum Report {
-    Accepted(Extents),
-    Short(u8, u64, Extents),
+    Accepted(Reported),
+    Short(u8, u64, Reported),
     Refused(u8, u64),
 }
 

@@ -2,69 +2,60 @@
 use crate::printing;
 use batch::Lengths;
 use batch::Report;
+use batch::Reported;
 use libc::STDOUT_FILENO;
 use parts::State;
-use progress::Extents;
 ghost use Prim.Native.Nat.{_≤_};
 ghost use lib.ListN.{length};
 
-// A report as numbers: its sort (0 accepted, 1 short, 2 refused), number, place and lengths, 0 where it has none.
+// A report as numbers: its sort (0 accepted, 1 short, 2 refused), number, place and what is reported, 0 where it has none.
 struct Numbers {
     sort: u8,
     number: u8,
     place: u64,
-    lengths: Lengths,
+    values: [u64; batch::VALUES],
 }
 
-fn measured(sort: u8, number: u8, place: u64, extents: Extents) -> Numbers {
-    let lengths = Lengths {
-        source: extents.source.end,
-        reconstructed: extents.reconstructed.end,
-        forward: extents.forward.end,
-        backward: extents.backward.end,
-    };
+fn measured(sort: u8, number: u8, place: u64, reported: Reported) -> Numbers {
+    let values = batch_code::values_of(reported);
     Numbers {
         sort,
         number,
         place,
-        lengths,
+        values,
     }
 }
 
 fn unmeasured(number: u8, place: u64) -> Numbers {
-    let lengths = Lengths {
-        source: 0,
-        reconstructed: 0,
-        forward: 0,
-        backward: 0,
-    };
+    let values = [0u64; batch::VALUES];
     Numbers {
         sort: 2,
         number,
         place,
-        lengths,
+        values,
     }
 }
 
 fn numbers_of(report: Report) -> Numbers {
     match report {
-        Report::Accepted(extents) => measured(0, 0, 0, extents),
-        Report::Short(number, place, extents) => measured(1, number, place, extents),
+        Report::Accepted(reported) => measured(0, 0, 0, reported),
+        Report::Short(number, place, reported) => measured(1, number, place, reported),
         Report::Refused(number, place) => unmeasured(number, place),
     }
 }
 
-fn same_lengths(a: Lengths, b: Lengths) -> bool {
-    if a.source != b.source {
+fn same_values(a: &[u64], b: &[u64]) -> bool {
+    if a.len() != b.len() {
         return false;
     }
-    if a.reconstructed != b.reconstructed {
-        return false;
+    let mut i = 0;
+    while i < a.len() {
+        if a[i] != b[i] {
+            return false;
+        }
+        i += 1;
     }
-    if a.forward != b.forward {
-        return false;
-    }
-    a.backward == b.backward
+    true
 }
 
 fn same(a: Numbers, b: Numbers) -> bool {
@@ -77,9 +68,9 @@ fn same(a: Numbers, b: Numbers) -> bool {
     if a.place != b.place {
         return false;
     }
-    let left = a.lengths;
-    let right = b.lengths;
-    same_lengths(left, right)
+    let left = a.values;
+    let right = b.values;
+    same_values(&left, &right)
 }
 
 fn in_two(words: &[u32], cut: usize, lengths: Lengths) -> Report

@@ -31,6 +31,6 @@ pub fn check(words: &[u32], lengths: Lengths) -> Report
 {
     match judge_batch(words) {
         Verdict::Stop(number, place) => Report::Refused(number, place),
-        Verdict::Next(p) => reporting::report_of(p.extents, lengths),
+        Verdict::Next(p) => reporting::report_of(p, lengths),
     }
 }

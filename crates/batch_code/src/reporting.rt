@@ -2,10 +2,12 @@
 use answers::Answer;
 use batch::Lengths;
 use batch::Report;
+use batch::Reported;
 use progress::Extents;
+use progress::Progress;
 ghost use mathlib.Core.Path.{_≡_};
 ghost use Rattle.answers.specs.Answers.{judged};
-ghost use Rattle.batch.specs.Reports.{bufferRules, measured};
+ghost use Rattle.batch.specs.Reports.{bufferRules, measured, reportable, valuesOf};
 
 // The lowest buffer that is too short.
 fn buffer_fault(extents: Extents, lengths: Lengths) -> Answer
@@ -21,12 +23,26 @@ fn buffer_fault(extents: Extents, lengths: Lengths) -> Answer
     answers_code::unless(a, 13, 3, backward)
 }
 
-// The answer to a whole batch that keeps every other rule, from what it touches.
-pub fn report_of(extents: Extents, lengths: Lengths) -> Report
-    ensures { λ r. ⌜ r ≡ measured extents lengths ⌝ }
+// The answer to a whole batch that keeps every other rule, from how far it had come with END.
+pub fn report_of(progress: Progress, lengths: Lengths) -> Report
+    ensures { λ r. ⌜ r ≡ measured (reportable progress) lengths ⌝ }
 {
+    let extents = progress.extents;
+    let reported = Reported { extents };
     match buffer_fault(extents, lengths) {
-        Answer::Accepted => Report::Accepted(extents),
-        Answer::Refused(number, place) => Report::Short(number, place, extents),
+        Answer::Accepted => Report::Accepted(reported),
+        Answer::Refused(number, place) => Report::Short(number, place, reported),
     }
+}
+
+// The numbers that are reported, in the order in which they are printed.
+pub fn values_of(reported: Reported) -> [u64; batch::VALUES]
+    ensures { λ r. ⌜ r ≡ valuesOf reported ⌝ }
+{
+    [
+        reported.extents.source.end,
+        reported.extents.reconstructed.end,
+        reported.extents.forward.end,
+        reported.extents.backward.end,
+    ]
 }

@@ -10,7 +10,6 @@ use lib.ListN.{length, getD, take, drop, replicate}
 use Rattle.lists.proofs.Slices.{piece-at, pieces-length, front-length, front-beyond}
 use Rattle.answers.specs.declared.Answer.the-variants as alone
 use Rattle.macroblock.specs.Macroblocks.{macroblockOf}
-use Rattle.progress.specs.declared.Extents.{Extents}
 use Rattle.progress.specs.declared.Progress.{Progress}
 use Rattle.progress.specs.declared.Verdict.the-variants.{Next}
 use Rattle.records.specs.Alone.{readAnswer, readRoom}
@@ -21,6 +20,7 @@ use Rattle.batch.specs.Reports.{reportNumber, reportPlace, reportedOf, verdictO
 use Rattle.batch.specs.declared.Lengths.{Lengths}
 use Rattle.batch.specs.declared.Report.{Report}
 use Rattle.batch.specs.declared.Report.the-variants.{Accepted, Short, Refused}
+use Rattle.batch.specs.declared.Reported.{Reported}
 use Rattle.batch.proofs.BufferLengths.{passed-keeps, kept-verdict}
 use Rattle.batch.proofs.Numbers.{accepted-by-0}
 use Rattle.batch.proofs.ReadAlone.{Alone, macroblocks-alone, alone-at}
@@ -49,7 +49,7 @@ module _ (needed : ℕ) (log : List ℕ) where
   number-0 (Short n place e) h = h
   number-0 (Refused n place) h = h
 
-  room-for : (e : Extents) → reportNumber (roomed needed log (Accepted e)) ≡ 0 → needed ≤ length log
+  room-for : (e : Reported) → reportNumber (roomed needed log (Accepted e)) ≡ 0 → needed ≤ length log
   room-for e h = by (ltb (length log) needed) refl h
     where
       by : (b : Bool) → ltb (length log) needed ≡ b → reportNumber (cond b (Short 14 needed e) (Accepted e)) ≡ 0 → needed ≤ length log

@@ -8,13 +8,13 @@ use native.Mathlib.Omega.{arith}
 use borrow.Author.Tests.{ltb-true}
 use lib.Dec.{ltb}
 use lib.ListN.{length}
-use Rattle.progress.specs.declared.Extents.{Extents}
 use Rattle.batch.specs.Commands.{batchPicture}
 use Rattle.batch.specs.Demand.{KeepsOthers, AllEnough, Demand3}
 use Rattle.batch.specs.Reports.{report}
 use Rattle.batch.specs.declared.Lengths.{Lengths}
 use Rattle.batch.specs.declared.Report.{Report}
 use Rattle.batch.specs.declared.Report.the-variants.{Accepted, Short, Refused}
+use Rattle.batch.specs.declared.Reported.{Reported}
 use Rattle.batch.proofs.BufferLengths.{passed-keeps, Accepts, Settles, demand-by}
 use Rattle.decoding.specs.Logs.{logOf, logLength, roomed, decoded, logAfter, decodedLog, DecodedInto, RoomIn}
 
@@ -22,7 +22,7 @@ module _ (needed : ℕ) (log : List ℕ) where
   settles : Settles (needed ≤ length log) (roomed needed log)
   settles = record { keeps-13 = λ place e. refl; accepts = λ e. by (ltb (length log) needed) refl e }
     where
-      by : (b : Bool) → ltb (length log) needed ≡ b → (e : Extents)
+      by : (b : Bool) → ltb (length log) needed ≡ b → (e : Reported)
           → Accepts (needed ≤ length log) e (cond b (Short 14 needed e) (Accepted e))
       by true s e = inr (λ h. let l = ltb-true (length log) needed s in omega arith, needed, refl)
       by false s e = inl refl

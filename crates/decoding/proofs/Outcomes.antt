@@ -9,13 +9,13 @@ use Rattle.progress.specs.declared.Progress.{Progress}
 use Rattle.progress.specs.declared.Verdict.{Verdict}
 use Rattle.progress.specs.declared.Verdict.the-variants.{Next, Stop}
 use Rattle.batch.specs.Commands.{commandsOf, macroblocksIn, batchPicture}
-use Rattle.batch.specs.Reports.{measured, concluding, verdictOf, report}
+use Rattle.batch.specs.Reports.{reportable, measured, concluding, verdictOf, report}
 use Rattle.batch.specs.declared.Lengths.{Lengths}
 use Rattle.batch.specs.declared.Report.{Report}
 use Rattle.batch.specs.declared.Report.the-variants.{Accepted, Short, Refused}
+use Rattle.batch.specs.declared.Reported.{Reported}
 use Rattle.batch.proofs.CommandList.{listed}
 use Rattle.batch.proofs.Runs.{gone-through}
-use Rattle.progress.specs.declared.Extents.{Extents}
 use Rattle.decoding.specs.Logs.{logOf, logLength, roomed, decoded, logAfter, decodedLog}
 use Rattle.decoding.proofs.RoomLaws.{Other, unwritten, not-accepted, lacking, roomy}
 
@@ -41,7 +41,7 @@ module _ (l : Lengths) (ws log : List ℕ) where
   unfolding decoded report
   refused n place e = both (Refused n place) log (ap (λ (v : Verdict). roomed (logLength (batchPicture ws .grid)) log (concluding l v)) e) refl
 
-  module _ (p : Progress) (r : Report) (v : verdictOf ws ≡ Next p) (m : r ≡ measured (p .extents) l) where
+  module _ (p : Progress) (r : Report) (v : verdictOf ws ≡ Next p) (m : r ≡ measured (reportable p) l) where
     answer : (x : Report) → r ≡ x → decoded l ws log ≡ roomed (logLength (p .picture .grid)) log x
     unfolding decoded report
     answer x e =
@@ -54,7 +54,7 @@ module _ (l : Lengths) (ws log : List ℕ) where
     lacks-buffer o =
         both r log (answer r refl ∙ not-accepted (logLength (p .picture .grid)) log r o) (sym (unwritten r (logOf ws) log o))
 
-    module _ (e : Extents) (a : r ≡ Accepted e) (needed : ℕ) (n : needed ≡ logLength (p .picture .grid)) where
+    module _ (e : Reported) (a : r ≡ Accepted e) (needed : ℕ) (n : needed ≡ logLength (p .picture .grid)) where
       -- the log is too short
       pub lacks-room : length log < needed → (Short 14 needed e ≡ decoded l ws log) × (log ≡ decodedLog l ws log)
       lacks-room h =

@@ -4,10 +4,10 @@ use mathlib.Core.Path.{_≡_, refl}
 use Prim.Native.Nat.{ℕ, _≤_, _<_}
 use borrow.Author.Tests.{lt-ltb, le-ltb}
 use lib.ListN.{length}
-use Rattle.progress.specs.declared.Extents.{Extents}
 use Rattle.batch.specs.Reports.{reportNumber}
 use Rattle.batch.specs.declared.Report.{Report}
 use Rattle.batch.specs.declared.Report.the-variants.{Accepted, Short, Refused}
+use Rattle.batch.specs.declared.Reported.{Reported}
 use Rattle.decoding.specs.Logs.{roomed, logAfter}
 
 -- A report that accepts nothing.
@@ -35,7 +35,7 @@ module _ (needed : ℕ) (log : List ℕ) where
   not-accepted (Refused n place) o = refl
 
   -- The log is too short.
-  pub lacking : (e : Extents) → length log < needed → roomed needed log (Accepted e) ≡ Short 14 needed e
+  pub lacking : (e : Reported) → length log < needed → roomed needed log (Accepted e) ≡ Short 14 needed e
   lacking e h = simp (lt-ltb (length log) needed h)
 
   -- It is long enough.

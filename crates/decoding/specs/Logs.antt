@@ -30,8 +30,8 @@ logLength g = recordLength * (g .columns * g .rows)
 
 -- "14 lent room too small: bytes or words needed"; "14 last". The four lengths are reported with it.
 abbrev pub roomed : ℕ → List ℕ → Report → Report
-roomed needed log (Accepted e) = cond (ltb (length log) needed) (Short 14 needed e) (Accepted e)
-roomed needed log (Short n place e) = Short n place e
+roomed needed log (Accepted r) = cond (ltb (length log) needed) (Short 14 needed r) (Accepted r)
+roomed needed log (Short n place r) = Short n place r
 roomed needed log (Refused n place) = Refused n place
 
 -- The answer to a batch that is decoded into a log.
@@ -40,8 +40,8 @@ decoded l ws log = roomed (logLength (batchPicture ws .grid)) log (report l ws)
 
 -- The whole log afterwards: "bytes beyond stay"; "No refusal writes into lent memory."
 abbrev pub logAfter : Report → List ℕ → List ℕ → List ℕ
-logAfter (Accepted e) new log = new ++ drop (length new) log
-logAfter (Short n place e) new log = log
+logAfter (Accepted r) new log = new ++ drop (length new) log
+logAfter (Short n place r) new log = log
 logAfter (Refused n place) new log = log
 
 unfoldable pub decodedLog : Lengths → List ℕ → List ℕ → List ℕ

@@ -21,13 +21,13 @@ pub fn decode(words: &[u32], lengths: Lengths, log: &mut [u8]) -> Report
     match batch_code::judge_batch(words) {
         Verdict::Stop(number, place) => Report::Refused(number, place),
         Verdict::Next(p) => {
-            let report = batch_code::report_of(p.extents, lengths);
-            let Report::Accepted(extents) = report else {
+            let report = batch_code::report_of(p, lengths);
+            let Report::Accepted(reported) = report else {
                 return report;
             };
             let needed = log_length(p.picture.grid);
             if log.len() < needed {
-                return Report::Short(14, needed as u64, extents);
+                return Report::Short(14, needed as u64, reported);
             }
             writing::write_records(words, log);
             report

@@ -2,25 +2,25 @@
 use answers::Answer;
 use batch::Lengths;
 use batch::Report;
+use batch::Reported;
 use interface::Outcome;
 use interface::Summary;
-use progress::Extents;
 ghost use mathlib.Core.Path.{_≡_};
 ghost use Rattle.batch.specs.declared.Report.the-variants.{Short};
 ghost use Rattle.interface.specs.Summaries.{summaryOf, outcomeOf};
 
-// A number and a place with the four lengths of what is touched.
-fn measured(number: u8, place: u64, extents: Extents) -> Summary
-    ensures { λ r. ⌜ r ≡ summaryOf (Short number place extents) ⌝ }
+// A number and a place with what is reported.
+fn measured(number: u8, place: u64, reported: Reported) -> Summary
+    ensures { λ r. ⌜ r ≡ summaryOf (Short number place reported) ⌝ }
 {
     Summary {
         number,
         place,
         lengths: Lengths {
-            source: extents.source.end,
-            reconstructed: extents.reconstructed.end,
-            forward: extents.forward.end,
-            backward: extents.backward.end,
+            source: reported.extents.source.end,
+            reconstructed: reported.extents.reconstructed.end,
+            forward: reported.extents.forward.end,
+            backward: reported.extents.backward.end,
         },
     }
 }
@@ -29,8 +29,8 @@ pub(crate) fn summary_of(report: Report) -> Summary
     ensures { λ r. ⌜ r ≡ summaryOf report ⌝ }
 {
     match report {
-        Report::Accepted(extents) => measured(0, 0, extents),
-        Report::Short(number, place, extents) => measured(number, place, extents),
+        Report::Accepted(reported) => measured(0, 0, reported),
+        Report::Short(number, place, reported) => measured(number, place, reported),
         Report::Refused(number, place) => Summary {
             number,
             place,

@@ -42,7 +42,7 @@ in-order = refl
 abbrev extent : ℕ → Extent
 extent n = record { end = n }
 
-printed-in-order : textOf (Accepted (record { source = extent 1; reconstructed = extent 20; forward = extent 300; backward = extent 0xFFFFFFFFFFFFFFFF }))
+printed-in-order : textOf (Accepted (record { extents = record { source = extent 1; reconstructed = extent 20; forward = extent 300; backward = extent 0xFFFFFFFFFFFFFFFF } }))
     ≡ ascii "accept 1 20 300 18446744073709551615"
 unfolding decimal
 printed-in-order = refl

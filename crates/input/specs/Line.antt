@@ -5,7 +5,7 @@ use mathlib.Core.List.{List, [], _∷_, _++_}
 use lib.Dec.{eqb, ltb}
 use lib.ListN.{length, take, drop}
 use Rattle.fields.specs.Bytes.{numberIn, elements}
-use Rattle.batch.specs.Reports.{lengthsIn, report}
+use Rattle.batch.specs.Reports.{valuesOf, report}
 use Rattle.batch.specs.declared.Lengths.{Lengths}
 use Rattle.batch.specs.declared.Report.{Report}
 use Rattle.batch.specs.declared.Report.the-variants.{Accepted, Short, Refused}
@@ -33,8 +33,8 @@ wordsFrom (a ∷ b ∷ c ∷ d ∷ bytes) = numberIn (a ∷ b ∷ c ∷ d ∷ []
 
 -- "One to three leftover bytes get 1, placed at the whole words, if nothing else was refused."
 abbrev pub leftOver : ℕ → ℕ → Report → Report
-leftOver bytes words (Accepted e) = cond (eqb bytes 0) (Accepted e) (Refused 1 words)
-leftOver bytes words (Short n place e) = Short n place e
+leftOver bytes words (Accepted r) = cond (eqb bytes 0) (Accepted r) (Refused 1 words)
+leftOver bytes words (Short n place r) = Short n place r
 leftOver bytes words (Refused n place) = Refused n place
 
 -- The answer to a batch of bytes.
@@ -48,8 +48,8 @@ inputReport bytes =
 
 -- "`accept` and the four lengths, or `refuse`, number and place, and for 13 the lengths too."
 abbrev pub textOf : Report → List ℕ
-textOf (Accepted e) = ascii "accept" ++ spaced (lengthsIn e)
-textOf (Short n place e) = ascii "refuse" ++ spaced (n ∷ place ∷ lengthsIn e)
+textOf (Accepted r) = ascii "accept" ++ spaced (valuesOf r)
+textOf (Short n place r) = ascii "refuse" ++ spaced (n ∷ place ∷ valuesOf r)
 textOf (Refused n place) = ascii "refuse" ++ spaced (n ∷ place ∷ [])
 
 -- "It prints one line".

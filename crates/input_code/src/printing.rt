@@ -1,12 +1,10 @@
 // A report as a line of text.
 use batch::Report;
 use input::OutputLine;
-use progress::Extents;
 ghost use mathlib.Core.Path.{_≡_};
 ghost use mathlib.Core.List.{[], _∷_, _++_};
-ghost use Prim.Native.Nat.{_+_, _≤_};
+ghost use Prim.Native.Nat.{_+_, _*_, _≤_};
 ghost use lib.ListN.{length};
-ghost use Rattle.batch.specs.Reports.{lengthsIn};
 ghost use Rattle.input.specs.Text.{ascii, decimal, spaced};
 ghost use Rattle.input.specs.Line.{textOf, reportLine};
 ghost use Rattle.input.specs.Input.{bytesIn};
@@ -41,15 +39,18 @@ fn put_number(line: OutputLine, n: u64) -> OutputLine
     put_decimal(put(line, b" "), n)
 }
 
-// The four lengths.
-fn put_lengths(line: OutputLine, extents: Extents) -> OutputLine
-    requires { ⌜ line .len + 84 ≤ 256 ⌝ }
-    ensures { λ r. ⌜ (bytesIn r ≡ bytesIn line ++ spaced (lengthsIn extents)) × (r .len ≤ line .len + 84) ⌝ }
+// Numbers, each with a space before it.
+fn put_numbers(line: OutputLine, numbers: &[u64]) -> OutputLine
+    requires { ⌜ line .len + 21 * length (now numbers) ≤ 256 ⌝ }
+    ensures { λ r. ⌜ (bytesIn r ≡ bytesIn line ++ spaced (now (numbers .entry))) × (r .len ≤ line .len + 21 * length (now (numbers .entry))) ⌝ }
 {
-    let source = put_number(line, extents.source.end);
-    let reconstructed = put_number(source, extents.reconstructed.end);
-    let forward = put_number(reconstructed, extents.forward.end);
-    put_number(forward, extents.backward.end)
+    let mut next = line;
+    let mut i = 0;
+    while i < numbers.len() {
+        next = put_number(next, numbers[i]);
+        i += 1;
+    }
+    next
 }
 
 // An empty line.
@@ -64,17 +65,22 @@ fn empty() -> OutputLine
 fn refused(number: u8, place: u64) -> OutputLine
     ensures { λ r. ⌜ (bytesIn r ≡ ascii "refuse" ++ spaced (number ∷ place ∷ [])) × (r .len ≤ 48) ⌝ }
 {
-    let word = put(empty(), b"refuse");
-    let numbered = put_number(word, number as u64);
-    put_number(numbered, place)
+    let numbers = [number as u64, place];
+    put_numbers(put(empty(), b"refuse"), &numbers)
 }
 
 fn text_of(report: Report) -> OutputLine
-    ensures { λ r. ⌜ (bytesIn r ≡ textOf report) × (r .len ≤ 132) ⌝ }
+    ensures { λ r. ⌜ (bytesIn r ≡ textOf report) × (r .len ≤ 255) ⌝ }
 {
     match report {
-        Report::Accepted(extents) => put_lengths(put(empty(), b"accept"), extents),
-        Report::Short(number, place, extents) => put_lengths(refused(number, place), extents),
+        Report::Accepted(reported) => {
+            let values = batch_code::values_of(reported);
+            put_numbers(put(empty(), b"accept"), &values)
+        }
+        Report::Short(number, place, reported) => {
+            let values = batch_code::values_of(reported);
+            put_numbers(refused(number, place), &values)
+        }
         Report::Refused(number, place) => refused(number, place),
     }
 }

@@ -12,9 +12,9 @@ pub fn answer(state: State) -> Report
         return Report::Refused(state.number, state.place);
     }
     if state.progress.stage.ended {
-        let extents = state.progress.extents;
+        let progress = state.progress;
         let lengths = state.lengths;
-        return batch_code::report_of(extents, lengths);
+        return batch_code::report_of(progress, lengths);
     }
     let held = holding::held_words(state);
     Report::Refused(1, state.at as u64 + held as u64)

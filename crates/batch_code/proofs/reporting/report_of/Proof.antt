@@ -1,7 +1,7 @@
--- `report_of`: the answer to a whole batch that keeps every other rule, from what it touches.
+-- `report_of`: the answer to a whole batch that keeps every other rule, from how far it had come with END.
 use mathlib.Core.Path.{sym, ap, _∙_}
 use borrow.Author.Needs.{needs}
-use Rattle.batch.specs.Reports.{reporting, measured}
+use Rattle.batch.specs.Reports.{reportable, reporting, measured}
 use Rattle.batch_code.proofs.reporting.report_of.Statement.{statement}
 use Rattle.batch_code.proofs.reporting.report_of.Tie as tie
 
@@ -16,11 +16,15 @@ enum-known-number c = search needs
 
 returns : tie.Need-returns
 unfolding measured
-returns c = ap (reporting (c .before .before .before .args .extents)) (sym (c .enum-told .given .1) ∙ c .before .before .buffer-fault .ensures)
+returns c =
+    let f = c .before .before in
+    ap (reporting (reportable (f .before .before .args .progress))) (sym (c .enum-told .given .1) ∙ f .buffer-fault .ensures)
 
 returns-2 : tie.Need-returns-2
 unfolding measured
-returns-2 c = ap (reporting (c .before .before .before .before .args .extents)) (sym (c .before .number .given .1) ∙ c .before .before .before .buffer-fault .ensures)
+returns-2 c =
+    let f = c .before .before .before in
+    ap (reporting (reportable (f .before .before .args .progress))) (sym (c .before .number .given .1) ∙ f .buffer-fault .ensures)
 
 pub report-of-spec : {M : Type 1} → statement M
 report-of-spec = tie.close (tie.spec buffer-fault-requires enum-told enum-known-number returns returns-2)

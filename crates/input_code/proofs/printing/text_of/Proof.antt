@@ -1,9 +1,10 @@
 -- `text_of`: the text of each case of a report.
 use mathlib.Core.List.{List, [], _∷_, _++_}
-use mathlib.Core.Path.{_≡_, sym, _∙_, ap}
+use mathlib.Core.Path.{_≡_, sym, _∙_, ap, ap₂}
 use Prim.Native.Nat.{ℕ}
 use native.Mathlib.Omega.{arith}
-use Rattle.batch.specs.Reports.{lengthsIn}
+use lib.ListN.{length}
+use Rattle.batch.specs.Reports.{valuesOf}
 use Rattle.input.specs.Text.{ascii, spaced}
 use Rattle.input.specs.Line.{textOf}
 use Rattle.input.specs.Input.{bytesIn}
@@ -15,6 +16,9 @@ use Rattle.input_code.proofs.printing.text_of.Tie as tie
 enum-known-report : tie.Need-enum-known-report
 enum-known-report c = search needs
 
+values-of-requires : tie.Need-values-of-requires
+values-of-requires c κs = search needs
+
 empty-requires : tie.Need-empty-requires
 empty-requires c κs = search needs
 
@@ -24,17 +28,26 @@ slice-aggregate-put c = search needs
 put-requires : tie.Need-put-requires
 put-requires c κs = search needs
 
-put-lengths-requires : tie.Need-put-lengths-requires
-put-lengths-requires c κs = search needs
+slice-aggregate-put-numbers : tie.Need-slice-aggregate-put-numbers
+slice-aggregate-put-numbers c = search needs
+
+put-numbers-requires : tie.Need-put-numbers-requires
+put-numbers-requires c κs = search needs
 
 enum-known-report-2 : tie.Need-enum-known-report-2
 enum-known-report-2 c = search needs
 
+values-of-requires-2 : tie.Need-values-of-requires-2
+values-of-requires-2 c κs = search needs
+
 refused-requires : tie.Need-refused-requires
 refused-requires c κs = search needs
 
-put-lengths-requires-2 : tie.Need-put-lengths-requires-2
-put-lengths-requires-2 c κs = search needs
+slice-aggregate-put-numbers-2 : tie.Need-slice-aggregate-put-numbers-2
+slice-aggregate-put-numbers-2 c = search needs
+
+put-numbers-requires-2 : tie.Need-put-numbers-requires-2
+put-numbers-requires-2 c κs = search needs
 
 enum-known-report-3 : tie.Need-enum-known-report-3
 enum-known-report-3 c = search needs
@@ -44,20 +57,24 @@ refused-requires-2 c κs = search needs
 
 returns : tie.Need-returns
 returns c =
-    let g = c .before .before .before .before .before .report .given in
-    let e = c .before .before .before .empty in
-    let p = c .before .put in
+    let p = c .before .before .put in
+    let e = c .before .before .before .before .empty in
+    let v = c .before .before .before .before .before in
+    let g = v .before .before .report .given in
     let word : bytesIn (p .result) ≡ ascii "accept" = p .ensures .0 ∙ ap (λ (x : List ℕ). x ++ ascii "accept") (e .ensures .0) in (
-      c .put-lengths .ensures .0 ∙ ap (λ (x : List ℕ). x ++ spaced (lengthsIn (g .0 .0))) word ∙ ap textOf (sym (g .1)),
-      omega (arith, c .put-lengths .ensures .1, p .ensures .1, e .ensures .1),
+      c .put-numbers .ensures .0 ∙ ap₂ (λ (x y : List ℕ). x ++ spaced y) word (v .values-of .ensures) ∙ ap textOf (sym (g .1)),
+      omega (arith, c .put-numbers .ensures .1, p .ensures .1, e .ensures .1, ap length (v .values-of .ensures)),
     )
 
 returns-2 : tie.Need-returns-2
 returns-2 c =
-    let g = c .before .before .before .report2 .given in
-    let r = c .before .refused in (
-      then-spaced (ascii "refuse") (g .0 .0 ∷ g .0 .1 .0 ∷ []) (lengthsIn (g .0 .1 .1 .0)) (r .ensures .0) (c .put-lengths2 .ensures .0) ∙ ap textOf (sym (g .1)),
-      omega (arith, c .put-lengths2 .ensures .1, r .ensures .1),
+    let r = c .before .before .refused in
+    let v = c .before .before .before in
+    let g = v .before .before .report2 .given in (
+      then-spaced (ascii "refuse") (g .0 .0 ∷ g .0 .1 .0 ∷ []) (valuesOf (g .0 .1 .1 .0)) (r .ensures .0)
+          (c .put-numbers2 .ensures .0 ∙ ap (λ (y : List ℕ). bytesIn (r .result) ++ spaced y) (v .values-of2 .ensures))
+          ∙ ap textOf (sym (g .1)),
+      omega (arith, c .put-numbers2 .ensures .1, r .ensures .1, ap length (v .values-of2 .ensures)),
     )
 
 returns-3 : tie.Need-returns-3
@@ -68,13 +85,17 @@ text-of-spec =
     tie.close
     (tie.spec
     enum-known-report
+    values-of-requires
     empty-requires
     slice-aggregate-put
     put-requires
-    put-lengths-requires
+    slice-aggregate-put-numbers
+    put-numbers-requires
     enum-known-report-2
+    values-of-requires-2
     refused-requires
-    put-lengths-requires-2
+    slice-aggregate-put-numbers-2
+    put-numbers-requires-2
     enum-known-report-3
     refused-requires-2
     returns
