@@ -2,7 +2,7 @@
 use mathlib.Core.Bool.{Bool, true, false, cond}
 use mathlib.Core.List.{List, [], _∷_, foldl}
 use mathlib.Core.Path.{_≡_, refl, sym, ap, _∙_}
-use Prim.Native.Nat.{ℕ, zero, suc, _+_, _*_, _/_, _%_, _≤_, _<_}
+use Prim.Native.Nat.{ℕ, _+_, _*_, _/_, _%_, _≤_, _<_}
 use native.Mathlib.Nat.{add-zero, zero-add}
 use native.Mathlib.Omega.{arith}
 use lib.ListN.{length, getD}
@@ -24,7 +24,8 @@ use Rattle.placement.proofs.PositionLaws.{own-position, in-group, position-of}
 use Rattle.sequence.specs.Judging.{rulesOf, nextOf, judge}
 use Rattle.sequence.proofs.JudgingLaws.{goes-on}
 use Rattle.sequence.proofs.SequenceLaws.{macroblock-rules, all-come, said-next, surface-once, picture-once, Sound, fresh-sound, countOf, sound-next}
-use Rattle.batch.specs.Commands.{Command, commandsOf, macroblocksIn, lastSaid, batchFrame, batchPicture, InOrder, howMany}
+use Rattle.commands.specs.Commands.{Command, commandsOf, macroblocksIn, lastSaid, batchFrame, batchPicture, InOrder, howMany}
+use Rattle.commands.proofs.CommandLaws.{in-order-at}
 use Rattle.batch.specs.Walk.{going, step, start}
 use Rattle.batch.proofs.Runs.{Run, batch-runs}
 
@@ -143,15 +144,6 @@ run-order p (c ∷ cs) q r s =
           rw k at rest,
         )
     by rest false e k = rw (k ∙ add-zero (countOf p)) at rest
-
--- the k-th of macroblocks in order
-pub in-order-at : (w j : ℕ) (ms : List (List ℕ)) (k : ℕ) → InOrder w j ms → k < length ms
-    → (macroblockOf (getD ms k []) .column ≡ (j + k) % w) × (macroblockOf (getD ms k []) .row ≡ (j + k) / w)
-in-order-at w j [] k o l = absurd (omega arith)
-in-order-at w j (m ∷ ms) zero o l = rw (add-zero j) (o .0, o .1)
-in-order-at w j (m ∷ ms) (suc k) o l =
-    let e : j + suc k ≡ j + 1 + k = omega arith in
-    rw e (in-order-at w (j + 1) ms k (o .2) (omega arith))
 
 -- What the list of commands says of a walk that was not refused.
 pub record Listed (ws : List ℕ) (p : Progress) : Type 0 where

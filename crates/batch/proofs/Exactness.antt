@@ -26,7 +26,7 @@ use Rattle.placement.proofs.TouchLaws.{next-exact}
 use Rattle.sequence.specs.Judging.{judge}
 use Rattle.sequence.proofs.JudgingLaws.{goes-on}
 use Rattle.sequence.proofs.SequenceLaws.{macroblock-rules, macroblock-next, others-touch-nothing, Sound, fresh-sound, countOf}
-use Rattle.batch.specs.Commands.{Command, commandsOf, macroblocksIn, batchFrame, batchPicture}
+use Rattle.commands.specs.Commands.{Command, commandsOf, macroblocksIn, batchFrame, batchPicture}
 use Rattle.batch.specs.Touched.{positionIn, Touched}
 use Rattle.batch.specs.Walk.{going, step, start}
 use Rattle.batch.proofs.CommandList.{frame-kept, picture-kept, next-sound, listed}

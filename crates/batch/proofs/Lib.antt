@@ -1,7 +1,6 @@
 -- for the crates above
 pub mod BufferLengths
 pub mod CommandList
-pub mod CutLaws
 pub mod Numbers
 pub mod ReadAlone
 pub mod Runs
@@ -9,5 +8,4 @@ pub mod WalkLaws
 -- for this crate alone
 mod Cases
 mod Exactness
-mod Gathering
 mod Measuring

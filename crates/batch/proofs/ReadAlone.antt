@@ -1,17 +1,14 @@
 -- The MACROBLOCK commands of a batch that is not refused can each be read alone.
 use mathlib.Core.Bool.{Bool, true, false, cond}
-use mathlib.Core.List.{List, [], _∷_, _++_, foldl}
+use mathlib.Core.List.{List, [], _∷_, foldl}
 use mathlib.Core.Path.{_≡_, refl, sym, ap, _∙_}
-use Prim.Native.Nat.{ℕ, zero, suc, _+_, _≤_, _<_}
+use Prim.Native.Nat.{ℕ, zero, suc, _≤_, _<_}
 use native.Mathlib.Omega.{arith}
-use borrow.Author.Tests.{ltb-false}
-use lib.Dec.{eqb, ltb}
 use lib.ListN.{length, getD}
 use Rattle.answers.specs.Answers.{judged}
 use Rattle.answers.specs.declared.Answer.the-variants.{Accepted}
 use Rattle.headers.specs.Headers.{macroblockHeader, headerOf, wordsIn, begins}
 use Rattle.headers.specs.Words.{wordAt}
-use Rattle.headers.specs.declared.Header.{Header}
 use Rattle.headers.specs.declared.Opcode.the-variants.{Macroblock}
 use Rattle.headers.proofs.HeaderLaws.{macroblock-word, macroblock-words}
 use Rattle.macroblock.specs.Rules.{commandRules}
@@ -20,7 +17,8 @@ use Rattle.progress.specs.declared.Progress.{Progress}
 use Rattle.placement.proofs.MacroblockLaws.{alone-kept}
 use Rattle.sequence.proofs.JudgingLaws.{goes-on}
 use Rattle.sequence.proofs.SequenceLaws.{macroblock-rules}
-use Rattle.batch.specs.Commands.{Command, cut, commandsOf, macroblocksIn}
+use Rattle.commands.specs.Commands.{Command, commandsOf, macroblocksIn}
+use Rattle.commands.proofs.CommandLaws.{Whole, cut-whole}
 use Rattle.batch.specs.Walk.{going, step, start}
 use Rattle.batch.proofs.Runs.{Run, batch-runs}
 
@@ -33,32 +31,6 @@ pub record Alone (m : List ℕ) : Type 0 where
 abbrev pub AllAlone : List (List ℕ) → Type 0
 AllAlone [] = Unit {0}
 AllAlone (m ∷ ms) = Alone m × AllAlone ms
-
--- Commands that have the header that their first word says, and at least the words of it.
-abbrev Whole : List Command → Type 0
-Whole [] = Unit {0}
-Whole (c ∷ cs) = (c .header ≡ headerOf (wordAt (c .words) 0)) × (wordsIn (c .header) ≤ length (c .words)) × Whole cs
-
-cut-whole : (at : ℕ) (g ws : List ℕ) → Whole (cut at g ws)
-unfolding cut
-cut-whole at g [] = tt
-cut-whole at g (w ∷ ws) =
-    by (eqb (wordsIn h) 0) (ltb (length g+) (wordsIn h)) refl (cut-whole at (g ++ (w ∷ [])) ws) (cut-whole (at + length (g ++ (w ∷ []))) [] ws)
-  where
-    g+ : List ℕ
-    g+ = g ++ (w ∷ [])
-
-    h : Header
-    h = headerOf (wordAt (g ++ (w ∷ [])) 0)
-
-    c : Command
-    c = record { place = at; header = h; words = g ++ (w ∷ []) }
-
-    by : (u s : Bool) → ltb (length g+) (wordsIn h) ≡ s → Whole (cut at g+ ws) → Whole (cut (at + length g+) [] ws)
-        → Whole (cond u [] (cond s (cut at g+ ws) (c ∷ cut (at + length g+) [] ws)))
-    by true s e more next = tt
-    by false true e more next = more
-    by false false e more next = (refl, ltb-false (length g+) (wordsIn h) e, next)
 
 -- one MACROBLOCK command
 read-alone : (c : Command) → begins Macroblock (c .header) ≡ true → c .header ≡ headerOf (wordAt (c .words) 0) → wordsIn (c .header) ≤ length (c .words)

@@ -19,7 +19,7 @@ use Rattle.progress.specs.declared.Verdict.{Verdict}
 use Rattle.progress.specs.declared.Verdict.the-variants.{Next, Stop}
 use Rattle.sequence.specs.Judging.{judge}
 use Rattle.sequence.proofs.SequenceLaws.{noop-passes}
-use Rattle.batch.specs.Commands.{Command, cut, commandsOf}
+use Rattle.commands.specs.Commands.{Command, cut, commandsOf}
 use Rattle.batch.specs.Reports.{ending, verdictOf}
 use Rattle.batch.specs.Walk.{Walk, going, stopped, limit, after, settled, step, start}
 use Rattle.batch.proofs.WalkLaws.{stays, Short}

@@ -20,7 +20,7 @@ use Rattle.progress.specs.declared.Verdict.{Verdict}
 use Rattle.progress.specs.declared.Verdict.the-variants.{Next, Stop}
 use Rattle.batch.specs.Walk.{Walk, going, stopped, limit, after, step, walkOf}
 use Rattle.batch.specs.declared.Walked.the-variants.{Going}
-use Rattle.batch.proofs.Gathering.{gathered, first-whole}
+use Rattle.commands.proofs.Gathering.{gathered, first-whole}
 
 -- After a refusal nothing changes.
 pub stays : (n place : ℕ) (ws : List ℕ) → foldl step (stopped n place) ws ≡ stopped n place

@@ -1,4 +1,3 @@
-pub mod Commands
 pub mod Demand
 pub mod Reports
 pub mod Touched

@@ -6,7 +6,7 @@ use Rattle.prediction.specs.declared.Position.{Position}
 use Rattle.macroblock.specs.Macroblocks.{macroblockOf}
 use Rattle.progress.specs.Buffers.{Buffer}
 use Rattle.placement.specs.Touching.{referenceIn, TouchedBy}
-use Rattle.batch.specs.Commands.{commandsOf, macroblocksIn, batchFrame, batchPicture}
+use Rattle.commands.specs.Commands.{commandsOf, macroblocksIn, batchFrame, batchPicture}
 
 -- Document 01: "The k-th macroblock, from 0, is at column k mod W, row k div W."
 abbrev pub positionIn : ℕ → ℕ → Position

@@ -15,7 +15,7 @@ use Rattle.progress.specs.declared.Verdict.the-variants.{Next}
 use Rattle.records.specs.Alone.{readAnswer, readRoom}
 use Rattle.records.specs.Layout.{recordLength}
 use Rattle.records.proofs.RoundTrips.{record-length, read-alone}
-use Rattle.batch.specs.Commands.{commandsOf, macroblocksIn, batchPicture}
+use Rattle.commands.specs.Commands.{commandsOf, macroblocksIn, batchPicture}
 use Rattle.batch.specs.Reports.{reportNumber, reportPlace, reportedOf, verdictOf, report}
 use Rattle.batch.specs.declared.Lengths.{Lengths}
 use Rattle.batch.specs.declared.Report.{Report}

@@ -8,7 +8,7 @@ use native.Mathlib.Omega.{arith}
 use borrow.Author.Tests.{ltb-true}
 use lib.Dec.{ltb}
 use lib.ListN.{length}
-use Rattle.batch.specs.Commands.{batchPicture}
+use Rattle.commands.specs.Commands.{batchPicture}
 use Rattle.batch.specs.Demand.{KeepsOthers, AllEnough, Demand3}
 use Rattle.batch.specs.Reports.{report}
 use Rattle.batch.specs.declared.Lengths.{Lengths}

@@ -21,9 +21,9 @@ use Rattle.headers.specs.declared.Opcode.the-variants as opcodes
 use Rattle.records.specs.Layout.{recordLength}
 use Rattle.records.specs.Records.{recordOf}
 use Rattle.records.proofs.RoundTrips.{record-length}
-use Rattle.batch.specs.Commands.{commandsOf, macroblocksIn}
+use Rattle.commands.specs.Commands.{commandsOf, macroblocksIn}
 use Rattle.decoding.specs.Logs.{recordAlone, logOf}
-use Rattle.batch.proofs.CutLaws.{left, Stands}
+use Rattle.commands.proofs.CutLaws.{left, Stands}
 
 -- The records of macroblocks, one behind the other.
 abbrev pub recordsOf : List (List ℕ) → List ℕ

@@ -8,7 +8,7 @@ use lib.ListN.{length, drop}
 use Rattle.progress.specs.declared.Progress.{Progress}
 use Rattle.progress.specs.declared.Verdict.{Verdict}
 use Rattle.progress.specs.declared.Verdict.the-variants.{Next, Stop}
-use Rattle.batch.specs.Commands.{commandsOf, macroblocksIn, batchPicture}
+use Rattle.commands.specs.Commands.{commandsOf, macroblocksIn, batchPicture}
 use Rattle.batch.specs.Reports.{reportable, measured, concluding, verdictOf, report}
 use Rattle.batch.specs.declared.Lengths.{Lengths}
 use Rattle.batch.specs.declared.Report.{Report}

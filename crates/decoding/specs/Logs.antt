@@ -9,7 +9,7 @@ use Rattle.prediction.specs.declared.Grid.{Grid}
 use Rattle.macroblock.specs.Macroblocks.{macroblockOf}
 use Rattle.records.specs.Layout.{recordLength}
 use Rattle.records.specs.Records.{recordOf}
-use Rattle.batch.specs.Commands.{commandsOf, macroblocksIn, batchPicture}
+use Rattle.commands.specs.Commands.{commandsOf, macroblocksIn, batchPicture}
 use Rattle.batch.specs.Reports.{report}
 use Rattle.batch.specs.declared.Lengths.{Lengths}
 use Rattle.batch.specs.declared.Report.{Report}

@@ -9,7 +9,7 @@ ghost use lib.ListN.{length, take, drop};
 ghost use Rattle.fields.specs.Word.{flag};
 ghost use Rattle.headers.specs.Headers.{begins};
 ghost use Rattle.headers.specs.declared.Opcode.the-variants.{Macroblock};
-ghost use Rattle.batch.specs.Commands.{commandsOf, macroblocksIn};
+ghost use Rattle.commands.specs.Commands.{commandsOf, macroblocksIn};
 ghost use Rattle.decoding.specs.Logs.{recordAlone, logOf};
 
 // Writes the record of a command, the k-th MACROBLOCK if it is one, to the k-th place of the log. Returns the number of the next.

@@ -7,7 +7,7 @@ use borrow.Author.Needs.{needs}
 use lib.ListN.{length}
 use Rattle.headers.specs.Words.{wordAt}
 use Rattle.headers.proofs.HeaderLaws.{Begun, begun-known, begun-carried}
-use Rattle.batch.proofs.CutLaws.{Stands, left-whole, left-unknown, left-short, left-end}
+use Rattle.commands.proofs.CutLaws.{Stands, left-whole, left-unknown, left-short, left-end}
 use Rattle.decoding.proofs.LogLaws.{Writing, writing-begins, writing-on, writing-ends, next-fits}
 use Rattle.decoding_code.proofs.writing.write_records.Statement.{statement}
 use Rattle.decoding_code.proofs.writing.write_records.Tie as tie

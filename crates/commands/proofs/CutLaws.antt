@@ -13,11 +13,8 @@ use Rattle.headers.specs.declared.Header.{Header}
 use Rattle.headers.specs.declared.Header.the-variants.{Unknown}
 use Rattle.headers.specs.declared.Opcode.the-variants.{Macroblock}
 use Rattle.headers.proofs.HeaderLaws.{word-there}
-use Rattle.batch.specs.Commands.{Command, cut, macroblocksIn}
-use Rattle.batch.proofs.Gathering.{gathered, first-whole}
-
-abbrev command : ℕ → Header → List ℕ → Command
-command at h ws = record { place = at; header = h; words = ws }
+use Rattle.commands.specs.Commands.{Command, command, cut, macroblocksIn}
+use Rattle.commands.proofs.Gathering.{gathered, first-whole}
 
 -- The words that are cut from a place on.
 module _ (at : ℕ) where

@@ -23,7 +23,7 @@ pub record Command : Type 0 where
   pub header : Header
   pub words : List ℕ
 
-abbrev command : ℕ → Header → List ℕ → Command
+abbrev pub command : ℕ → Header → List ℕ → Command
 command at h ws = record { place = at; header = h; words = ws }
 
 -- The commands of words, after the words `g` of a command that begins at `at`: words are gathered until they are as many as the

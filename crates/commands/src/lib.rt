@@ -1,0 +1,1 @@
+// The commands of a batch, cut by their headers alone.
