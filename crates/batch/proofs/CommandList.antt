@@ -25,7 +25,7 @@ use Rattle.sequence.specs.Judging.{rulesOf, nextOf, judge}
 use Rattle.sequence.proofs.JudgingLaws.{goes-on}
 use Rattle.sequence.proofs.SequenceLaws.{macroblock-rules, all-come, said-next, surface-once, picture-once, Sound, fresh-sound, countOf, sound-next}
 use Rattle.commands.specs.Commands.{Command, commandsOf, macroblocksIn, lastSaid, batchFrame, batchPicture, InOrder, howMany}
-use Rattle.commands.proofs.CommandLaws.{in-order-at}
+use Rattle.commands.proofs.ListLaws.{in-order-at}
 use Rattle.batch.specs.Walk.{going, step, start}
 use Rattle.batch.proofs.Runs.{Run, batch-runs}
 

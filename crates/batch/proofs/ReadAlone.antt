@@ -18,7 +18,7 @@ use Rattle.placement.proofs.MacroblockLaws.{alone-kept}
 use Rattle.sequence.proofs.JudgingLaws.{goes-on}
 use Rattle.sequence.proofs.SequenceLaws.{macroblock-rules}
 use Rattle.commands.specs.Commands.{Command, commandsOf, macroblocksIn}
-use Rattle.commands.proofs.CommandLaws.{Whole, cut-whole}
+use Rattle.commands.proofs.ListLaws.{AllWhole, cut-whole}
 use Rattle.batch.specs.Walk.{going, step, start}
 use Rattle.batch.proofs.Runs.{Run, batch-runs}
 
@@ -40,7 +40,7 @@ read-alone c b h l k =
     let n : wordsIn (c .header) ≡ 9 = ap wordsIn h ∙ macroblock-words (wordAt (c .words) 0) b' in
     record { header = macroblock-word (wordAt (c .words) 0) b'; nine = omega (arith, n, l); kept = k }
 
-run-alone : (p : Progress) (cs : List Command) (q : Progress) → Run p cs q → Whole cs → AllAlone (macroblocksIn cs)
+run-alone : (p : Progress) (cs : List Command) (q : Progress) → Run p cs q → AllWhole cs → AllAlone (macroblocksIn cs)
 unfolding macroblocksIn
 run-alone p [] q r w = tt
 run-alone p (c ∷ cs) q r w = by (begins Macroblock (c .header)) refl (run-alone (r .0) cs q (r .2) (w .2))

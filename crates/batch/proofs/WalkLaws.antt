@@ -9,7 +9,6 @@ use native.Mathlib.Omega.{arith}
 use borrow.Author.Tests.{lt-ltb, le-ltb, lt-leb, le-leb, ne-eqb, ltb-true, leb-false}
 use lib.Dec.{eqb, leb, ltb}
 use lib.ListN.{length, take, drop, length-append, length-drop}
-use lib.Seq.{length-take-le}
 use Rattle.headers.specs.Headers.{headerOf, wordsIn}
 use Rattle.headers.specs.Words.{wordAt}
 use Rattle.headers.specs.declared.Header.{Header}
@@ -18,9 +17,10 @@ use Rattle.progress.specs.declared.Progress.{Progress}
 use Rattle.sequence.specs.Judging.{judge}
 use Rattle.progress.specs.declared.Verdict.{Verdict}
 use Rattle.progress.specs.declared.Verdict.the-variants.{Next, Stop}
+use Rattle.commands.specs.Commands.{nextIn}
+use Rattle.commands.proofs.Gathering.{byNext, gathered, first-whole, by-next}
 use Rattle.batch.specs.Walk.{Walk, going, stopped, limit, after, step, walkOf}
 use Rattle.batch.specs.declared.Walked.the-variants.{Going}
-use Rattle.commands.proofs.Gathering.{gathered, first-whole}
 
 -- After a refusal nothing changes.
 pub stays : (n place : ℕ) (ws : List ℕ) → foldl step (stopped n place) ws ≡ stopped n place
@@ -33,8 +33,13 @@ module _ (at : ℕ) (p : Progress) (e : p .stage .ended ≡ false) where
   abbrev read : List ℕ → List ℕ → Walk
   read g ws = foldl step (going at p g) ws
 
-  abbrev done : Header → List ℕ → List ℕ → Walk
-  done h g ws = foldl step (after at (at + length g) (judge h p g)) ws
+  abbrev done : Header → ℕ → List ℕ → List ℕ → Walk
+  done h n g ws = foldl step (after at (at + n) (judge h p g)) ws
+
+  -- a word that names no command
+  unknown : (w : ℕ) (ws : List ℕ) → at < limit → wordsIn (headerOf w) ≡ 0 → read [] (w ∷ ws) ≡ stopped 2 at
+  unfolding step
+  unknown w ws l h = simp (add-zero, lt-leb limit at l, e, h) (stays 2 at ws)
 
   -- one word, with which the command is not whole
   more : (g : List ℕ) (w : ℕ) (ws : List ℕ) → at + length g < limit → length (g ++ (w ∷ [])) < wordsIn (headerOf (wordAt (g ++ (w ∷ [])) 0))
@@ -45,24 +50,28 @@ module _ (at : ℕ) (p : Progress) (e : p .stage .ended ≡ false) where
       simp (lt-leb limit (at + length g) l, e, ne-eqb n 0 (λ z. omega arith), lt-ltb (length (g ++ (w ∷ []))) n h)
 
   -- the last word of a command
-  last : (g : List ℕ) (w : ℕ) (ws : List ℕ) (h : Header) → at + length g < limit → headerOf (wordAt (g ++ (w ∷ [])) 0) ≡ h
-      → length (g ++ (w ∷ [])) ≡ wordsIn h → read g (w ∷ ws) ≡ done h (g ++ (w ∷ [])) ws
+  last : (g : List ℕ) (w : ℕ) (ws : List ℕ) (h : Header) (n : ℕ) → at + length g < limit → headerOf (wordAt (g ++ (w ∷ [])) 0) ≡ h
+      → n ≡ wordsIn h → length (g ++ (w ∷ [])) ≡ n → read g (w ∷ ws) ≡ done h n (g ++ (w ∷ [])) ws
   unfolding step
-  last g w ws h l s m =
+  last g w ws h n l s c m =
       let len : length (g ++ (w ∷ [])) ≡ length g + 1 = length-append g (w ∷ []) in
-      simp (lt-leb limit (at + length g) l, e, s, ne-eqb (wordsIn h) 0 (λ z. omega arith), le-ltb (length (g ++ (w ∷ []))) (wordsIn h) (omega arith))
+      simp (lt-leb limit (at + length g) l, e, s, ← c, m, ne-eqb n 0 (λ z. omega arith), le-ltb n n (omega arith))
 
   -- The words of a command that is not whole are gathered.
   pub gather : (g ws : List ℕ) → at + length g + length ws ≤ limit → length g + length ws < wordsIn (headerOf (wordAt (g ++ ws) 0))
       → foldl step (going at p g) ws ≡ going at p (g ++ ws)
-  gather = gathered read done at limit more last
+  gather = gathered read (stopped 2 at) done at limit unknown more last
 
   -- The fold over words of which the first n are a whole command: that command judged, and the fold over the others.
   pub command : (n : ℕ) (ws : List ℕ) (h : Header) → at + n ≤ limit → 1 ≤ n → n ≤ length ws → headerOf (wordAt ws 0) ≡ h → n ≡ wordsIn h
       → foldl step (going at p []) ws ≡ foldl step (after at (at + n) (judge h p (take n ws))) (drop n ws)
-  command n ws h l some m s c =
-      first-whole read done at limit more last n ws h l some m s c
-      ∙ ap (λ (k : ℕ). foldl step (after at (at + k) (judge h p (take n ws))) (drop n ws)) (length-take-le n ws m)
+  command = first-whole read (stopped 2 at) done at limit unknown more last
+
+  -- The fold over words, by what they begin with: refused by 2, gathered, or that command judged and the fold over the others.
+  pub walk-next : (ws : List ℕ) → at + length ws ≤ limit
+      → foldl step (going at p []) ws
+      ≡ byNext (stopped 2 at) (going at p ws) (λ h n. foldl step (after at (at + n) (judge h p (take n ws))) (drop n ws)) (nextIn ws)
+  walk-next = by-next read (stopped 2 at) done at limit unknown more last
 
 -- A walk at the limit is stopped by one more word.
 pub full : (at : ℕ) (p : Progress) (g ws : List ℕ) → 1 ≤ length ws → limit ≤ at + length g → foldl step (going at p g) ws ≡ stopped 27 limit

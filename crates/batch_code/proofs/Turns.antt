@@ -1,5 +1,5 @@
 -- The turns of the loop of `walk_within`, and what `walk` does with the words beyond the limit.
-use mathlib.Core.List.{List, [], foldl, foldl-append}
+use mathlib.Core.List.{List, [], _∷_, foldl, foldl-append}
 use mathlib.Core.Bool.{Bool, true, false}
 use mathlib.Core.Path.{_≡_, refl, sym, _∙_, ap}
 use Prim.Native.Nat.{ℕ, _+_, _-_, _≤_, _<_}
@@ -9,30 +9,37 @@ use native.Mathlib.Omega.{arith}
 use borrow.Author.Tests.{lt-leb, eq-eqb, ne-eqb}
 use lib.ListN.{length, take, drop, length-drop, take-append-drop, drop-of-length-le}
 use lib.Seq.{drop-cons, drop-drop, length-take-le}
-use Rattle.headers.specs.Headers.{table, lookUp, headerOf, wordsIn}
+use Rattle.headers.specs.Headers.{table, lookUp, headerOf}
 use Rattle.headers.specs.Words.{wordAt}
-use Rattle.headers.specs.declared.Header.{Header}
-use Rattle.headers.specs.declared.Header.the-variants.{Known, Unknown}
-use Rattle.headers.specs.declared.Opcode.the-variants.{Noop}
-use Rattle.headers.proofs.HeaderLaws.{word-there}
 use Rattle.progress.specs.declared.Progress.{Progress}
 use Rattle.sequence.specs.Judging.{judge}
 use Rattle.sequence.proofs.SequenceLaws.{noop-passes}
-use Rattle.progress.specs.declared.Verdict.{Verdict}
-use Rattle.progress.specs.declared.Verdict.the-variants.{Next}
+use Rattle.commands.specs.Commands.{nextIn}
+use Rattle.commands.specs.declared.NextCommand.{NextCommand}
+use Rattle.commands.specs.declared.NextCommand.the-variants.{Unknown, Incomplete, Whole}
+use Rattle.commands.proofs.Gathering.{byNext}
 use Rattle.batch.specs.Walk.{Walk, going, stopped, limit, after, step, walkOf}
 use Rattle.batch.specs.declared.Walked.the-variants.{Going}
-use Rattle.batch.proofs.WalkLaws.{stays, gather, command, full, used-within}
+use Rattle.batch.proofs.WalkLaws.{stays, walk-next, full, used-within}
 
--- a whole command stands there
-pub turn : (base at n : ℕ) (p : Progress) (ws : List ℕ) (h : Header) (v : Verdict) → p .stage .ended ≡ false → base + length ws ≤ limit → 1 ≤ n
-    → at + n ≤ length ws → headerOf (wordAt ws at) ≡ h → n ≡ wordsIn h → judge h p (take (at + n - at) (drop at ws)) ≡ v
-    → foldl step (going (base + at) p []) (drop at ws) ≡ foldl step (after (base + at) (base + (at + n)) v) (drop (at + n) ws)
-turn base at n p ws h v e l some m s c j =
+-- by what stands there: refused by 2, in progress, or a whole command judged and the words behind it
+abbrev pub turnBy : ℕ → ℕ → Progress → List ℕ → NextCommand → Walk
+turnBy base at p ws =
+    byNext (stopped 2 (base + at)) (going (base + at) p (drop at ws))
+    (λ h n. foldl step (after (base + at) (base + (at + n)) (judge h p (take (at + n - at) (drop at ws)))) (drop (at + n) ws))
+
+pub turn-next : (base at : ℕ) (p : Progress) (ws : List ℕ) (c : NextCommand) → p .stage .ended ≡ false → base + length ws ≤ limit → at ≤ length ws
+    → c ≡ nextIn (drop at ws) → foldl step (going (base + at) p []) (drop at ws) ≡ turnBy base at p ws c
+turn-next base at p ws c e l m s =
     let len : length (drop at ws) ≡ length ws - at = length-drop at ws in
-    let n' : at + n - at ≡ n = omega arith in
-    rw (← j, n', ← drop-drop n at ws, ← add-assoc base at n)
-    (command (base + at) p e n (drop at ws) h (omega arith) some (omega arith) (ap headerOf (word-there at ws) ∙ s) c)
+    walk-next (base + at) p e (drop at ws) (omega arith) ∙ rw (← s) (by c)
+  where
+    by : (c : NextCommand)
+        → byNext (stopped 2 (base + at)) (going (base + at) p (drop at ws)) (λ h n. foldl step (after (base + at) (base + at + n) (judge h p (take n (drop at ws)))) (drop n (drop at ws))) c
+        ≡ turnBy base at p ws c
+    by Unknown = refl
+    by Incomplete = refl
+    by (Whole h n) = let n' : at + n - at ≡ n = omega arith in rw (n', ← drop-drop n at ws, ← add-assoc base at n) refl
 
 module _ (base at : ℕ) (p : Progress) (ws : List ℕ) (l : base + length ws ≤ limit) (m : at < length ws) where
   first-word : foldl step (going (base + at) p []) (drop at ws)
@@ -42,13 +49,14 @@ module _ (base at : ℕ) (p : Progress) (ws : List ℕ) (l : base + length ws �
   -- a zero word: a NOOP, or one after END
   pub turn-zero : wordAt ws at ≡ 0 → foldl step (going (base + at) p []) (drop at ws) ≡ foldl step (going (base + (at + 1)) p []) (drop (at + 1) ws)
   unfolding step after
-  turn-zero z = by (p .stage .ended) refl
+  turn-zero z = first-word ∙ by (p .stage .ended) refl
     where
-      by : (t : Bool) → p .stage .ended ≡ t → foldl step (going (base + at) p []) (drop at ws) ≡ foldl step (going (base + (at + 1)) p []) (drop (at + 1) ws)
-      by true e =
-          first-word
-          ∙ simp (add-zero, lt-leb limit (base + at) (omega arith), e, eq-eqb (wordAt ws at) 0 z, ← add-assoc base at 1)
-      by false e = turn base at 1 p ws (Known Noop 1) (Next p) e l (omega arith) (omega arith) (ap headerOf z ∙ (unfold headerOf lookUp table in refl)) refl (noop-passes 1 p _)
+      by : (t : Bool) → p .stage .ended ≡ t
+          → foldl step (step (going (base + at) p []) (wordAt ws at)) (drop (at + 1) ws) ≡ foldl step (going (base + (at + 1)) p []) (drop (at + 1) ws)
+      by true e = simp (add-zero, lt-leb limit (base + at) (omega arith), e, eq-eqb (wordAt ws at) 0 z, ← add-assoc base at 1)
+      by false e =
+          rw z (unfold headerOf lookUp table in
+          simp (add-zero, lt-leb limit (base + at) (omega arith), e, noop-passes 1 p (0 ∷ []), ← add-assoc base at 1))
 
   -- another word after END
   pub turn-behind : p .stage .ended ≡ true → (wordAt ws at ≡ 0 → ⊥)
@@ -58,23 +66,6 @@ module _ (base at : ℕ) (p : Progress) (ws : List ℕ) (l : base + length ws �
       first-word
       ∙ simp (add-zero, lt-leb limit (base + at) (omega arith), e, ne-eqb (wordAt ws at) 0 z)
       (stays 12 (base + at) (drop (at + 1) ws))
-
-  -- a word that names no command
-  pub turn-unknown : p .stage .ended ≡ false → headerOf (wordAt ws at) ≡ Unknown
-      → foldl step (going (base + at) p []) (drop at ws) ≡ stopped 2 (base + at)
-  unfolding step
-  turn-unknown e z =
-      first-word
-      ∙ simp (add-zero, lt-leb limit (base + at) (omega arith), e, z)
-      (stays 2 (base + at) (drop (at + 1) ws))
-
-  -- a command that is not whole
-  pub turn-short : (h : Header) → p .stage .ended ≡ false → headerOf (wordAt ws at) ≡ h → length ws - at < wordsIn h
-      → foldl step (going (base + at) p []) (drop at ws) ≡ going (base + at) p (drop at ws)
-  turn-short h e s z =
-      let len : length (drop at ws) ≡ length ws - at = length-drop at ws in
-      let size : wordsIn (headerOf (wordAt (drop at ws) 0)) ≡ wordsIn h = ap wordsIn (ap headerOf (word-there at ws) ∙ s) in
-      gather (base + at) p e [] (drop at ws) (omega arith) (omega arith)
 
 -- at the end of the run nothing is left
 pub finished : (base at : ℕ) (p : Progress) (ws : List ℕ) → length ws ≤ at

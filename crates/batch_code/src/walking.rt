@@ -1,6 +1,6 @@
 // Walking through the commands of a run of words.
 use batch::Walked;
-use headers::Header;
+use commands::NextCommand;
 use headers::MACROBLOCK_HEADER;
 use progress::Progress;
 use progress::Verdict;
@@ -39,22 +39,21 @@ fn walk_within(progress: Progress, base: u32, words: &[u32]) -> Walked
                 }
             }
         }
-        let header = headers_code::read_header(word);
-        let (Header::Known(_, n) | Header::Carried(n)) = header else {
-            return Walked::Stopped(2, place);
-        };
-        if words.len() - at < n {
-            return Walked::Going(p, at);
-        }
-        let end = at + n;
-        match sequence_code::judge(header, p, &words[at..end]) {
-            Verdict::Next(next) => {
-                p = next;
-                at = end;
-            }
-            Verdict::Stop(number, word) => {
-                let fault = place + word;
-                return Walked::Stopped(number, fault);
+        match commands_code::next_command(&words[at..]) {
+            NextCommand::Unknown => return Walked::Stopped(2, place),
+            NextCommand::Incomplete => break,
+            NextCommand::Whole(header, n) => {
+                let end = at + n;
+                match sequence_code::judge(header, p, &words[at..end]) {
+                    Verdict::Next(next) => {
+                        p = next;
+                        at = end;
+                    }
+                    Verdict::Stop(number, word) => {
+                        let fault = place + word;
+                        return Walked::Stopped(number, fault);
+                    }
+                }
             }
         }
     }

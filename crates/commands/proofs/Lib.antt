@@ -1,4 +1,4 @@
 -- for the crates above
-pub mod CommandLaws
 pub mod CutLaws
 pub mod Gathering
+pub mod ListLaws

@@ -5,7 +5,7 @@ use mathlib.Core.List.{List, [], _∷_, _++_}
 use mathlib.Core.Path.{_≡_}
 use lib.ListN.{length}
 use Rattle.fields.specs.Word.{flag}
-use Rattle.headers.specs.Headers.{headerOf, bySize, begins}
+use Rattle.headers.specs.Headers.{headerOf, wordsIn, bySize, begins}
 use Rattle.headers.specs.Words.{wordAt}
 use Rattle.macroblock.specs.Macroblocks.{macroblockOf}
 use Rattle.headers.specs.declared.Header.{Header}
@@ -16,6 +16,8 @@ use Rattle.picture.specs.Surfaces.{surfaceOf}
 use Rattle.picture.specs.declared.Frame as frames
 use Rattle.picture.specs.declared.Picture as pictures
 use Rattle.progress.specs.Progress.{fresh}
+use Rattle.commands.specs.declared.NextCommand.{NextCommand}
+use Rattle.commands.specs.declared.NextCommand.the-variants.{Unknown, Incomplete, Whole}
 
 -- A command: the place of its header, what that begins, and its words.
 pub record Command : Type 0 where
@@ -25,6 +27,10 @@ pub record Command : Type 0 where
 
 abbrev pub command : ℕ → Header → List ℕ → Command
 command at h ws = record { place = at; header = h; words = ws }
+
+-- What words begin with. Where there are none, a command is still to come.
+unfoldable pub nextIn : List ℕ → NextCommand
+nextIn ws = bySize (headerOf (wordAt ws 0)) (length ws) Unknown Incomplete (Whole (headerOf (wordAt ws 0)) (wordsIn (headerOf (wordAt ws 0))))
 
 -- The commands of words, after the words `g` of a command that begins at `at`: words are gathered until they are as many as the
 -- first of them says. Cutting ends at a word that names no command; a last command that is not whole is none.

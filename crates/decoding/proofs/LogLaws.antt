@@ -22,8 +22,9 @@ use Rattle.records.specs.Layout.{recordLength}
 use Rattle.records.specs.Records.{recordOf}
 use Rattle.records.proofs.RoundTrips.{record-length}
 use Rattle.commands.specs.Commands.{commandsOf, macroblocksIn}
+use Rattle.commands.specs.declared.NextCommand.the-variants.{Whole}
+use Rattle.commands.proofs.CutLaws.{left, leftBy}
 use Rattle.decoding.specs.Logs.{recordAlone, logOf}
-use Rattle.commands.proofs.CutLaws.{left, Stands}
 
 -- The records of macroblocks, one behind the other.
 abbrev pub recordsOf : List (List ℕ) → List ℕ
@@ -137,7 +138,7 @@ pub writing-ends : {ws before : List ℕ} {at k : ℕ} {log : List ℕ} → Writ
 writing-ends {ws} {at = at} {k = k} {log = log} w e = sym (w .final ∙ placed-none k (left at ws) log e)
 
 -- A command of n words with the header h stands at word `at`: there is room for its record, and with that the log goes on.
-module _ {ws before : List ℕ} {at k : ℕ} {log : List ℕ} (h : Header) (n : ℕ) (w : Writing ws before at k log) (s : Stands at n ws h) where
+module _ {ws before : List ℕ} {at k : ℕ} {log : List ℕ} (h : Header) (n : ℕ) (w : Writing ws before at k log) (s : left at ws ≡ leftBy at ws (Whole h n)) where
   rest : 24 * (k + flag (begins opcodes.Macroblock h) + length (left (at + n) ws)) ≤ length log
   rest =
       let r = w .room in

@@ -1,4 +1,5 @@
 // The records of a batch's macroblocks, written to the log.
+use commands::NextCommand;
 use headers::Header;
 use headers::Opcode;
 ghost use mathlib.Core.Bool.{cond};
@@ -35,14 +36,11 @@ pub(crate) fn write_records(words: &[u32], log: &mut [u8])
 {
     let mut at = 0;
     let mut k = 0;
-    while at < words.len() {
-        let header = headers_code::read_header(words[at]);
-        let (Header::Known(_, n) | Header::Carried(n)) = header else {
+    loop {
+        let next = commands_code::next_command(&words[at..]);
+        let NextCommand::Whole(header, n) = next else {
             return;
         };
-        if words.len() - at < n {
-            return;
-        }
         let end = at + n;
         k = write_next(header, &words[at..end], k, log);
         at = end;

@@ -77,7 +77,7 @@ fn complete(state: State, held: usize, part: &[u32]) -> State
 {
     let old = state.buffer;
     let first = old[0];
-    let n = holding::command_words(first);
+    let n = commands_code::command_words(first);
     let need = n - held;
     if part.len() <= need {
         let buffer = holding::append(old, held, part);

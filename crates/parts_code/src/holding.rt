@@ -1,23 +1,10 @@
 // The words that are held of a command that is not complete.
-use headers::Header;
 use parts::State;
 ghost use mathlib.Core.Path.{_≡_};
 ghost use mathlib.Core.List.{_++_};
 ghost use Prim.Native.Nat.{_+_, _≤_};
 ghost use lib.ListN.{length, take};
-ghost use Rattle.headers.specs.Headers.{headerOf, wordsIn};
 ghost use Rattle.parts.specs.States.{gathered};
-
-// The count of words of the command that a word begins, 0 for none.
-pub(crate) fn command_words(word: u32) -> usize
-    ensures { λ r. ⌜ r ≡ wordsIn (headerOf word) ⌝ }
-{
-    let header = headers_code::read_header(word);
-    let (Header::Known(_, n) | Header::Carried(n)) = header else {
-        return 0;
-    };
-    n
-}
 
 // How many words the state holds of the command in progress.
 pub(crate) fn held_words(state: State) -> usize
@@ -28,7 +15,7 @@ pub(crate) fn held_words(state: State) -> usize
     }
     let first = state.buffer[0];
     let held = state.held;
-    if command_words(first) <= held {
+    if commands_code::command_words(first) <= held {
         return 0;
     }
     if 4294967295 < state.at as u64 + held as u64 {

@@ -1,22 +1,22 @@
 -- The fold over all the words is the fold from the command at `at` over what is left.
-use mathlib.Core.Path.{_≡_, sym, _∙_, subst}
+use mathlib.Core.Path.{_≡_, sym, ap, _∙_, subst}
 use mathlib.Core.List.{List, [], foldl}
-use mathlib.Core.Logic.{⊎-elim}
 use Prim.Native.Nat.{ℕ, _+_, _-_, _≤_}
 use native.Mathlib.Omega.{arith}
 use native.Mathlib.Nat.{add-zero}
 use borrow.Author.Needs.{needs}
 use lib.ListN.{length, drop, length-drop}
 use Rattle.lists.proofs.Slices.{part-rest}
-use Rattle.headers.specs.Words.{wordAt}
 use Rattle.progress.specs.declared.Verdict.{Verdict}
-use Rattle.headers.proofs.HeaderLaws.{Begun, begun-known, begun-carried}
 use Rattle.rows.specs.Rows.{TakenFrom}
 use Rattle.sequence.proofs.JudgingLaws.{stops-within}
+use Rattle.commands.specs.Commands.{nextIn}
+use Rattle.commands.specs.declared.NextCommand.{NextCommand}
+use Rattle.commands.proofs.Gathering.{whole-fits}
 use Rattle.batch.specs.Walk.{step, going, after}
 use Rattle.batch.proofs.WalkLaws.{stays}
 use Rattle.batch_code.proofs.RowTurn.{turn-row}
-use Rattle.batch_code.proofs.Turns.{turn, turn-zero, turn-behind, turn-unknown, turn-short, finished}
+use Rattle.batch_code.proofs.Turns.{turnBy, turn-next, turn-zero, turn-behind, finished}
 use Rattle.batch_code.proofs.walking.walk_within.Statement.{statement}
 use Rattle.batch_code.proofs.walking.walk_within.Tie as tie
 
@@ -27,35 +27,47 @@ Inv-loop base words p₀ at₀ p at =
 abbrev μ-loop : tie.MeasureT-loop
 μ-loop base words p₀ at₀ p at = length words - at
 
--- the header that was read begins a command
-begun : (c : tie.At-match-came Inv-loop μ-loop)
-    → Begun (wordAt (c .before .before .before .before .before .before .before .before .before .args .words .now) (c .before .before .before .before .before .before .before .loop .at)) (c .match .header) (c .match .n)
-begun c =
-    ⊎-elim
-    (λ t. rw (t .3, t .4) (begun-known _ _ _ _ (c .before .read-header .ensures) (t .1 .given .1)))
-    (λ t. rw (t .3, t .4) (begun-carried _ _ _ (c .before .read-header .ensures) (t .1 .given .1)))
-    (c .match .came)
+-- what stands at `at`
+next-there : (c : tie.After-next-command Inv-loop μ-loop)
+    → c .next-command .result ≡ nextIn (drop (c .before .before .before .before .before .before .before .loop .at) (c .before .before .before .before .before .before .before .before .before .args .words .now))
+next-there c =
+    c .next-command .ensures
+    ∙ ap nextIn (part-rest (c .before .before .before .before .before .before .before .loop .at) (c .before .before .before .before .before .before .before .before .before .args .words .now))
 
-fits : (c : tie.Else6 Inv-loop μ-loop)
-    → c .before .before .before .before .before .before .before .before .loop .at + c .before .match .n
-    ≤ length (c .before .before .before .before .before .before .before .before .before .before .args .words .now)
-fits c = omega (arith, c .if6 .left, c .before .before .before .before .before .before .before .loop-test .taken)
+-- what the words come to, by that
+come : (c : tie.After-next-command Inv-loop μ-loop) (x : NextCommand) → c .next-command .result ≡ x
+    → let s = c .before .before .before .before .before .before .before .before .before in
+    let l = c .before .before .before .before .before .before .before .loop in
+    foldl step (going (s .args .base) (s .args .progress) []) (s .args .words .now) ≡ turnBy (s .args .base) (l .at) (l .p) (s .args .words .now) x
+come c x e =
+    let s = c .before .before .before .before .before .before .before .before .before in
+    let l = c .before .before .before .before .before .before .before .loop in
+    l .inv .1 ∙ turn-next (s .args .base) (l .at) (l .p) (s .args .words .now) x (c .before .before .before .if2 .left) (s .pre) (l .inv .0) (sym e ∙ next-there c)
+
+-- a whole command has some words, and they are there
+fits : (c : tie.After-header Inv-loop μ-loop)
+    → let n = c .header .given .0 .1 .0 in
+    (1 ≤ n) × (c .before .before .before .before .before .before .before .before .before .loop .at + n
+    ≤ length (c .before .before .before .before .before .before .before .before .before .before .before .args .words .now))
+fits c =
+    let a = c .before .before in
+    whole-fits _ _ _ _ (a .before .before .before .before .before .before .before .loop .inv .0) (sym (next-there a) ∙ c .header .given .1)
 
 -- what the words come to, by the verdict on that command
 judged-there : (c : tie.After-judge Inv-loop μ-loop) (v : Verdict) → c .judge .result ≡ v
-    → let m = c .before .before .before .before in
-    let s = m .before .before .before .before .before .before .before .before .before in
-    let l = m .before .before .before .before .before .before .before .loop in
+    → let h = c .before .before .before in
+    let n = h .header .given .0 .1 .0 in
+    let s = h .before .before .before .before .before .before .before .before .before .before .before in
+    let l = h .before .before .before .before .before .before .before .before .before .loop in
     foldl step (going (s .args .base) (s .args .progress) []) (s .args .words .now)
-    ≡ foldl step (after (s .args .base + l .at) (s .args .base + (l .at + m .match .n)) v) (drop (l .at + m .match .n) (s .args .words .now))
+    ≡ foldl step (after (s .args .base + l .at) (s .args .base + (l .at + n)) v) (drop (l .at + n) (s .args .words .now))
 judged-there c v e =
-    let m = c .before .before .before .before in
-    let s = m .before .before .before .before .before .before .before .before .before in
-    let l = m .before .before .before .before .before .before .before .loop in
-    let b = begun m in
-    l .inv .1
-    ∙ turn (s .args .base) (l .at) (m .match .n) (l .p) (s .args .words .now) (m .match .header) v (m .before .before .before .if2 .left) (s .pre) (b .some)
-    (fits (c .before .before .before)) (b .is) (b .count) (sym (c .judge .ensures) ∙ e)
+    let h = c .before .before .before in
+    let n = h .header .given .0 .1 .0 in
+    let s = h .before .before .before .before .before .before .before .before .before .before .before in
+    let l = h .before .before .before .before .before .before .before .before .before .loop in
+    come (h .before .before) _ (h .header .given .1)
+    ∙ ap (λ (x : Verdict). foldl step (after (s .args .base + l .at) (s .args .base + (l .at + n)) x) (drop (l .at + n) (s .args .words .now))) (sym (c .judge .ensures) ∙ e)
 
 -- what was taken of the words from there on
 taken-there : (c : tie.After-judge-row Inv-loop μ-loop)
@@ -135,40 +147,35 @@ loop-again-2 c =
           (c .before .before .before .before .before .before .if2 .left) (s .pre) (l .inv .0) (taken-there (c .before .before)),
     )
 
-read-header-requires : tie.Need-read-header-requires Inv-loop μ-loop
-read-header-requires c κs = search needs
+mul-next-command : tie.Need-mul-next-command Inv-loop μ-loop
+mul-next-command c = search needs
 
-enum-known-header : tie.Need-enum-known-header Inv-loop μ-loop
-enum-known-header c = search needs
+sub-next-command : tie.Need-sub-next-command Inv-loop μ-loop
+sub-next-command c = search needs
 
-enum-known-header-2 : tie.Need-enum-known-header-2 Inv-loop μ-loop
-enum-known-header-2 c = search needs
+part-next-command-start : tie.Need-part-next-command-start Inv-loop μ-loop
+part-next-command-start c = search needs
+
+part-next-command-end : tie.Need-part-next-command-end Inv-loop μ-loop
+part-next-command-end c = search needs
+
+next-command-requires : tie.Need-next-command-requires Inv-loop μ-loop
+next-command-requires c κs = search needs
 
 enum-told : tie.Need-enum-told Inv-loop μ-loop
 enum-told c = search needs
 
 returns-2 : tie.Need-returns-2 Inv-loop μ-loop
-returns-2 c =
-    let s = c .before .before .before .before .before .before .before .before .before .before in
-    let l = c .before .before .before .before .before .before .before .before .loop in
-    sym (l .inv .1 ∙ turn-unknown (s .args .base) (l .at) (l .p) (s .args .words .now) (s .pre)
-    (c .before .before .before .before .before .before .before .loop-test .taken) (c .before .before .before .before .if2 .left)
-    (sym (c .before .before .read-header .ensures) ∙ c .enum-told .given .1))
+returns-2 c = sym (come (c .before .before) _ (c .enum-told .given .1))
 
-sub-if6 : tie.Need-sub-if6 Inv-loop μ-loop
-sub-if6 c = search needs
+enum-told-2 : tie.Need-enum-told-2 Inv-loop μ-loop
+enum-told-2 c = search needs
 
-returns-3 : tie.Need-returns-3 Inv-loop μ-loop
-returns-3 c =
-    let s = c .before .before .before .before .before .before .before .before .before .before in
-    let l = c .before .before .before .before .before .before .before .before .loop in
-    let b = begun (c .before) in
-    sym (l .inv .1 ∙ turn-short (s .args .base) (l .at) (l .p) (s .args .words .now) (s .pre)
-    (c .before .before .before .before .before .before .before .loop-test .taken) (c .before .match .header) (c .before .before .before .before .if2 .left)
-    (b .is) (rw (← b .count) (c .if6 .taken)))
+enum-known-header : tie.Need-enum-known-header Inv-loop μ-loop
+enum-known-header c = search needs
 
 add-end : tie.Need-add-end Inv-loop μ-loop
-add-end c = search needs
+add-end c = omega (arith, fits (c .before))
 
 mul-judge : tie.Need-mul-judge Inv-loop μ-loop
 mul-judge c = search needs
@@ -180,7 +187,7 @@ part-judge-start : tie.Need-part-judge-start Inv-loop μ-loop
 part-judge-start c = search needs
 
 part-judge-end : tie.Need-part-judge-end Inv-loop μ-loop
-part-judge-end c = search needs
+part-judge-end c = omega (arith, fits (c .before))
 
 judge-requires : tie.Need-judge-requires Inv-loop μ-loop
 judge-requires c κs = search needs
@@ -189,37 +196,38 @@ enum-known-next : tie.Need-enum-known-next Inv-loop μ-loop
 enum-known-next c = search needs
 
 loop-less-3 : tie.Need-loop-less-3 Inv-loop μ-loop
-loop-less-3 c =
-    let m = c .before .before .before .before .before .before .before in
-    omega (arith, begun m .some, c .before .before .before .before .before .before .if6 .left)
+loop-less-3 c = omega (arith, fits (c .before .before .before .before .before .before))
 
 loop-again-3 : tie.Need-loop-again-3 Inv-loop μ-loop
 unfolding after
 loop-again-3 c =
-    (fits (c .before .before .before .before .before .before), judged-there (c .before .before .before) _ (c .before .next .given .1))
+    (fits (c .before .before .before .before .before .before) .1, judged-there (c .before .before .before) _ (c .before .next .given .1))
 
 enum-known-number : tie.Need-enum-known-number Inv-loop μ-loop
 enum-known-number c = search needs
 
 add-fault : tie.Need-add-fault Inv-loop μ-loop
 add-fault c =
-    let m = c .before .before .before .before .before .before .before in
+    let m = c .before .before .before .before .before .before .before .before in
     let near = stops-within _ _ _ _ _ (sym (c .before .before .before .judge .ensures) ∙ c .before .number .given .1) in
     omega (arith, near .2, m .before .before .before .before .before .before .before .before .before .pre, m .before .before .before .before .before .before .loop-test .taken)
 
-returns-4 : tie.Need-returns-4 Inv-loop μ-loop
+returns-3 : tie.Need-returns-3 Inv-loop μ-loop
 unfolding after
-returns-4 c =
-    let m = c .before .before .before .before .before .before .before in
-    let s = m .before .before .before .before .before .before .before .before .before in
-    let l = m .before .before .before .before .before .before .before .loop in
-    sym (judged-there (c .before .before .before) _ (c .before .number .given .1) ∙ stays _ _ (drop (l .at + m .match .n) (s .args .words .now)))
+returns-3 c =
+    let h = c .before .before .before .before .before .before in
+    let s = h .before .before .before .before .before .before .before .before .before .before .before in
+    let l = h .before .before .before .before .before .before .before .before .before .loop in
+    sym (judged-there (c .before .before .before) _ (c .before .number .given .1) ∙ stays _ _ (drop (l .at + h .header .given .0 .1 .0) (s .args .words .now)))
 
-returns-5 : tie.Need-returns-5 Inv-loop μ-loop
-returns-5 c =
+returns-4 : tie.Need-returns-4 Inv-loop μ-loop
+returns-4 c =
     let l = c .before .loop in
     let a = c .before .before .before .args in
     sym (l .inv .1 ∙ finished (a .base) (l .at) (l .p) (a .words .now) (c .loop-test .left))
+
+returns-5 : tie.Need-returns-5 Inv-loop μ-loop
+returns-5 c = sym (come (c .before .before) _ (c .enum-told2 .given .1))
 
 pub walk-within-spec : {M : Type 1} → statement M
 walk-within-spec =
@@ -243,13 +251,15 @@ walk-within-spec =
     add-at-2
     loop-less-2
     loop-again-2
-    read-header-requires
-    enum-known-header
-    enum-known-header-2
+    mul-next-command
+    sub-next-command
+    part-next-command-start
+    part-next-command-end
+    next-command-requires
     enum-told
     returns-2
-    sub-if6
-    returns-3
+    enum-told-2
+    enum-known-header
     add-end
     mul-judge
     sub-judge
@@ -261,5 +271,6 @@ walk-within-spec =
     loop-again-3
     enum-known-number
     add-fault
+    returns-3
     returns-4
     returns-5)

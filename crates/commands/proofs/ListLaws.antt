@@ -15,12 +15,12 @@ use Rattle.macroblock.specs.Macroblocks.{macroblockOf}
 use Rattle.commands.specs.Commands.{Command, command, cut, InOrder}
 
 -- Commands that have the header that their first word says, and at least the words of it.
-abbrev pub Whole : List Command → Type 0
-Whole [] = Unit {0}
-Whole (c ∷ cs) = (c .header ≡ headerOf (wordAt (c .words) 0)) × (wordsIn (c .header) ≤ length (c .words)) × Whole cs
+abbrev pub AllWhole : List Command → Type 0
+AllWhole [] = Unit {0}
+AllWhole (c ∷ cs) = (c .header ≡ headerOf (wordAt (c .words) 0)) × (wordsIn (c .header) ≤ length (c .words)) × AllWhole cs
 
 -- What words cut into are such commands.
-pub cut-whole : (at : ℕ) (g ws : List ℕ) → Whole (cut at g ws)
+pub cut-whole : (at : ℕ) (g ws : List ℕ) → AllWhole (cut at g ws)
 unfolding cut
 cut-whole at g [] = tt
 cut-whole at g (w ∷ ws) =
@@ -35,8 +35,8 @@ cut-whole at g (w ∷ ws) =
     c : Command
     c = command at h g+
 
-    by : (u s : Bool) → ltb (length g+) (wordsIn h) ≡ s → Whole (cut at g+ ws) → Whole (cut (at + length g+) [] ws)
-        → Whole (cond u [] (cond s (cut at g+ ws) (c ∷ cut (at + length g+) [] ws)))
+    by : (u s : Bool) → ltb (length g+) (wordsIn h) ≡ s → AllWhole (cut at g+ ws) → AllWhole (cut (at + length g+) [] ws)
+        → AllWhole (cond u [] (cond s (cut at g+ ws) (c ∷ cut (at + length g+) [] ws)))
     by true s e more next = tt
     by false true e more next = more
     by false false e more next = (refl, ltb-false (length g+) (wordsIn h) e, next)
