@@ -3,11 +3,8 @@ use mathlib.Core.Bool.{Bool, true, false, cond, not, _&&_, _||_}
 use mathlib.Core.List.{List, [], _∷_, _++_}
 use mathlib.Core.Path.{_≡_, refl, sym, ap, subst, _∙_}
 use Prim.Native.Nat.{ℕ, _≤_}
-use native.Mathlib.Nat.{add-zero}
 use native.Mathlib.Omega.{arith}
 use borrow.Author.Tests.{eqb-true}
-use lib.ListN.{getD, drop}
-use lib.Seq.{getD-drop}
 use lib.Dec.{T, eqb, leb, leb→le, eqb→eq}
 use Rattle.lists.proofs.Booleans.{both, either}
 use Rattle.headers.specs.Headers.{Row, macroblockHeader, table, lookUp, headerOf, wordsIn, begins}
@@ -111,27 +108,7 @@ pub macroblock-words : (w : ℕ) → begins Macroblock (headerOf w) ≡ true →
 unfolding headerOf lookUp table
 macroblock-words w b = ap (λ (x : ℕ). wordsIn (headerOf x)) (macroblock-word w b)
 
--- A header that was read and begins a command of n words.
-pub record Begun (w : ℕ) (h : Header) (n : ℕ) : Type 0 where
-  pub is : headerOf w ≡ h
-  pub count : n ≡ wordsIn h
-  pub some : 1 ≤ n
-
-pub begun-known : (w : ℕ) (h : Header) (o : Opcode) (n : ℕ) → h ≡ headerOf w → h ≡ Known o n → Begun w (Known o n) n
-begun-known w h o n e f =
-    let g : headerOf w ≡ Known o n = sym e ∙ f in
-    record { is = g; count = refl; some = known-size w o n g .0 }
-
-pub begun-carried : (w : ℕ) (h : Header) (n : ℕ) → h ≡ headerOf w → h ≡ Carried n → Begun w (Carried n) n
-begun-carried w h n e f =
-    let g : headerOf w ≡ Carried n = sym e ∙ f in
-    record { is = g; count = refl; some = carried-size w n g .0 }
-
 -- The first word of a command is not changed by what follows.
 pub head-stays : (g : List ℕ) (w : ℕ) (ws : List ℕ) → wordAt (g ++ (w ∷ ws)) 0 ≡ wordAt (g ++ (w ∷ [])) 0
 head-stays [] w ws = refl
 head-stays (x ∷ g) w ws = refl
-
--- The word at `at` of a list is the first of what begins there.
-pub word-there : (at : ℕ) (ws : List ℕ) → wordAt (drop at ws) 0 ≡ wordAt ws at
-word-there at ws = getD-drop at ws 0 0 ∙ ap (λ (k : ℕ). getD ws k 0) (add-zero at)
