@@ -17,7 +17,7 @@ use Rattle.progress.specs.declared.Progress.{Progress}
 use Rattle.progress.specs.declared.Stage.{Stage}
 use Rattle.batch.specs.declared.Lengths.{Lengths}
 use Rattle.parts.specs.declared.State.{State}
-use Rattle.memory.specs.Places.{memoryWords, bufferWords, surfacedWord, picturedWord, groupedWord, inGroupWord, groupStartWord, inSliceWord, endedWord, widthWord, heightWord, pitchWord, chromaRowWord, codingWord, forwardXWord, forwardYWord, backwardXWord, backwardYWord, columnsWord, rowsWord, columnWord, rowWord, kindWord, fiveWord, sixWord, sevenWord, eightWord, sourceEndWord, reconstructedEndWord, forwardEndWord, backwardEndWord, atWord, heldWord, stoppedWord, numberWord, placeWord, sourceLengthWord, reconstructedLengthWord, forwardLengthWord, backwardLengthWord}
+use Rattle.memory.specs.Places as places
 
 -- A word, a number of so many bits in one, and a flag.
 abbrev pub storedWord : List ℕ → ℕ → ℕ
@@ -33,52 +33,52 @@ storedFlag m i = not (eqb (storedWord m i) 0)
 abbrev pub storedStage : List ℕ → Stage
 storedStage m =
     record {
-      surfaced = storedFlag m surfacedWord;
-      pictured = storedFlag m picturedWord;
-      grouped = storedFlag m groupedWord;
-      «in_group» = storedFlag m inGroupWord;
-      «group_start» = storedFlag m groupStartWord;
-      «in_slice» = storedFlag m inSliceWord;
-      ended = storedFlag m endedWord;
+      surfaced = storedFlag m places.surfaced;
+      pictured = storedFlag m places.pictured;
+      grouped = storedFlag m places.grouped;
+      «in_group» = storedFlag m places.inGroup;
+      «group_start» = storedFlag m places.groupStart;
+      «in_slice» = storedFlag m places.inSlice;
+      ended = storedFlag m places.ended;
     }
 
 abbrev pub storedFrame : List ℕ → Frame
 storedFrame m =
     record {
-      width = storedNumber 16 m widthWord;
-      height = storedNumber 16 m heightWord;
-      surface = record { pitch = storedNumber 32 m pitchWord; «chroma_row» = storedNumber 16 m chromaRowWord };
+      width = storedNumber 16 m places.width;
+      height = storedNumber 16 m places.height;
+      surface = record { pitch = storedNumber 32 m places.pitch; «chroma_row» = storedNumber 16 m places.chromaRow };
     }
 
 abbrev pub storedPicture : List ℕ → Picture
 storedPicture m =
     record {
-      coding = storedNumber 8 m codingWord;
-      forward = record { x = storedNumber 8 m forwardXWord; y = storedNumber 8 m forwardYWord };
-      backward = record { x = storedNumber 8 m backwardXWord; y = storedNumber 8 m backwardYWord };
-      grid = record { columns = storedNumber 16 m columnsWord; rows = storedNumber 16 m rowsWord };
+      coding = storedNumber 8 m places.coding;
+      forward = record { x = storedNumber 8 m places.forwardX; y = storedNumber 8 m places.forwardY };
+      backward = record { x = storedNumber 8 m places.backwardX; y = storedNumber 8 m places.backwardY };
+      grid = record { columns = storedNumber 16 m places.columns; rows = storedNumber 16 m places.rows };
     }
 
 abbrev pub storedPosition : List ℕ → Position
-storedPosition m = record { column = storedNumber 16 m columnWord; row = storedNumber 16 m rowWord }
+storedPosition m = record { column = storedNumber 16 m places.column; row = storedNumber 16 m places.row }
 
 abbrev pub storedPrevious : List ℕ → Previous
 storedPrevious m =
     record {
-      kind = storedNumber 8 m kindWord;
-      five = storedNumber 32 m fiveWord;
-      six = storedNumber 32 m sixWord;
-      seven = storedNumber 32 m sevenWord;
-      eight = storedNumber 32 m eightWord;
+      kind = storedNumber 8 m places.kind;
+      five = storedNumber 32 m places.five;
+      six = storedNumber 32 m places.six;
+      seven = storedNumber 32 m places.seven;
+      eight = storedNumber 32 m places.eight;
     }
 
 abbrev pub storedExtents : List ℕ → Extents
 storedExtents m =
     record {
-      source = record { end = storedWord m sourceEndWord };
-      reconstructed = record { end = storedWord m reconstructedEndWord };
-      forward = record { end = storedWord m forwardEndWord };
-      backward = record { end = storedWord m backwardEndWord };
+      source = record { end = storedWord m places.sourceEnd };
+      reconstructed = record { end = storedWord m places.reconstructedEnd };
+      forward = record { end = storedWord m places.forwardEnd };
+      backward = record { end = storedWord m places.backwardEnd };
     }
 
 abbrev pub storedProgress : List ℕ → Progress
@@ -93,20 +93,20 @@ storedProgress m =
     }
 
 abbrev pub storedLengths : List ℕ → Lengths
-storedLengths m = record { source = storedWord m sourceLengthWord; reconstructed = storedWord m reconstructedLengthWord; forward = storedWord m forwardLengthWord; backward = storedWord m backwardLengthWord }
+storedLengths m = record { source = storedWord m places.sourceLength; reconstructed = storedWord m places.reconstructedLength; forward = storedWord m places.forwardLength; backward = storedWord m places.backwardLength }
 
 unfoldable pub storedBuffer : List ℕ → List ℕ
-storedBuffer m = map (λ w. w % 2 ^ 32) (elements m 0 bufferWords)
+storedBuffer m = map (λ w. w % 2 ^ 32) (elements m 0 places.bufferWords)
 
 unfoldable pub stateIn : List ℕ → State
 stateIn m =
     record {
       progress = storedProgress m;
-      at = storedNumber 32 m atWord;
-      held = storedWord m heldWord;
-      stopped = storedFlag m stoppedWord;
-      number = storedNumber 8 m numberWord;
-      place = storedWord m placeWord;
+      at = storedNumber 32 m places.at;
+      held = storedWord m places.held;
+      stopped = storedFlag m places.stopped;
+      number = storedNumber 8 m places.number;
+      place = storedWord m places.place;
       lengths = storedLengths m;
       buffer = storedBuffer m;
     }
@@ -114,52 +114,52 @@ stateIn m =
 -- The words of a state: each field's word with its place.
 abbrev pub stageFields : Stage → List (ℕ × ℕ)
 stageFields s =
-    (surfacedWord, flag (s .surfaced))
-    ∷ (picturedWord, flag (s .pictured))
-    ∷ (groupedWord, flag (s .grouped))
-    ∷ (inGroupWord, flag (s .«in_group»))
-    ∷ (groupStartWord, flag (s .«group_start»))
-    ∷ (inSliceWord, flag (s .«in_slice»))
-    ∷ (endedWord, flag (s .ended))
+    (places.surfaced, flag (s .surfaced))
+    ∷ (places.pictured, flag (s .pictured))
+    ∷ (places.grouped, flag (s .grouped))
+    ∷ (places.inGroup, flag (s .«in_group»))
+    ∷ (places.groupStart, flag (s .«group_start»))
+    ∷ (places.inSlice, flag (s .«in_slice»))
+    ∷ (places.ended, flag (s .ended))
     ∷ []
 
 abbrev pub frameFields : Frame → List (ℕ × ℕ)
 frameFields f =
-    (widthWord, f .width)
-    ∷ (heightWord, f .height)
-    ∷ (pitchWord, f .surface .pitch)
-    ∷ (chromaRowWord, f .surface .«chroma_row»)
+    (places.width, f .width)
+    ∷ (places.height, f .height)
+    ∷ (places.pitch, f .surface .pitch)
+    ∷ (places.chromaRow, f .surface .«chroma_row»)
     ∷ []
 
 abbrev pub pictureFields : Picture → List (ℕ × ℕ)
 pictureFields p =
-    (codingWord, p .coding)
-    ∷ (forwardXWord, p .forward .x)
-    ∷ (forwardYWord, p .forward .y)
-    ∷ (backwardXWord, p .backward .x)
-    ∷ (backwardYWord, p .backward .y)
-    ∷ (columnsWord, p .grid .columns)
-    ∷ (rowsWord, p .grid .rows)
+    (places.coding, p .coding)
+    ∷ (places.forwardX, p .forward .x)
+    ∷ (places.forwardY, p .forward .y)
+    ∷ (places.backwardX, p .backward .x)
+    ∷ (places.backwardY, p .backward .y)
+    ∷ (places.columns, p .grid .columns)
+    ∷ (places.rows, p .grid .rows)
     ∷ []
 
 abbrev pub positionFields : Position → List (ℕ × ℕ)
-positionFields p = (columnWord, p .column) ∷ (rowWord, p .row) ∷ []
+positionFields p = (places.column, p .column) ∷ (places.row, p .row) ∷ []
 
 abbrev pub previousFields : Previous → List (ℕ × ℕ)
 previousFields p =
-    (kindWord, p .kind)
-    ∷ (fiveWord, p .five)
-    ∷ (sixWord, p .six)
-    ∷ (sevenWord, p .seven)
-    ∷ (eightWord, p .eight)
+    (places.kind, p .kind)
+    ∷ (places.five, p .five)
+    ∷ (places.six, p .six)
+    ∷ (places.seven, p .seven)
+    ∷ (places.eight, p .eight)
     ∷ []
 
 abbrev pub extentsFields : Extents → List (ℕ × ℕ)
 extentsFields e =
-    (sourceEndWord, e .source .end)
-    ∷ (reconstructedEndWord, e .reconstructed .end)
-    ∷ (forwardEndWord, e .forward .end)
-    ∷ (backwardEndWord, e .backward .end)
+    (places.sourceEnd, e .source .end)
+    ∷ (places.reconstructedEnd, e .reconstructed .end)
+    ∷ (places.forwardEnd, e .forward .end)
+    ∷ (places.backwardEnd, e .backward .end)
     ∷ []
 
 abbrev pub progressFields : Progress → List (ℕ × ℕ)
@@ -173,19 +173,19 @@ progressFields p =
 
 abbrev pub ownFields : State → List (ℕ × ℕ)
 ownFields s =
-    (atWord, s .at)
-    ∷ (heldWord, s .held)
-    ∷ (stoppedWord, flag (s .stopped))
-    ∷ (numberWord, s .number)
-    ∷ (placeWord, s .place)
+    (places.at, s .at)
+    ∷ (places.held, s .held)
+    ∷ (places.stopped, flag (s .stopped))
+    ∷ (places.number, s .number)
+    ∷ (places.place, s .place)
     ∷ []
 
 abbrev pub lengthsFields : Lengths → List (ℕ × ℕ)
 lengthsFields l =
-    (sourceLengthWord, l .source)
-    ∷ (reconstructedLengthWord, l .reconstructed)
-    ∷ (forwardLengthWord, l .forward)
-    ∷ (backwardLengthWord, l .backward)
+    (places.sourceLength, l .source)
+    ∷ (places.reconstructedLength, l .reconstructed)
+    ∷ (places.forwardLength, l .forward)
+    ∷ (places.backwardLength, l .backward)
     ∷ []
 
 abbrev pub fieldsOf : State → List (ℕ × ℕ)
@@ -198,7 +198,7 @@ placed ((place, word) ∷ rest) m = placed rest (set m place word)
 
 -- The whole state: the words of its buffer, and behind them zeros with the fields stored at their places.
 abbrev pub room : List ℕ
-room = replicate (memoryWords - bufferWords) 0
+room = replicate (places.memoryWords - places.bufferWords) 0
 
 unfoldable pub stateWords : State → List ℕ
 stateWords s = placed (fieldsOf s) (s .buffer ++ room)

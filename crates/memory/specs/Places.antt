@@ -10,123 +10,123 @@ abbrev pub bufferWords : ℕ
 bufferWords = 61
 
 -- The stage.
-abbrev pub surfacedWord : ℕ
-surfacedWord = bufferWords
+abbrev pub surfaced : ℕ
+surfaced = bufferWords
 
-abbrev pub picturedWord : ℕ
-picturedWord = surfacedWord + 1
+abbrev pub pictured : ℕ
+pictured = surfaced + 1
 
-abbrev pub groupedWord : ℕ
-groupedWord = picturedWord + 1
+abbrev pub grouped : ℕ
+grouped = pictured + 1
 
-abbrev pub inGroupWord : ℕ
-inGroupWord = groupedWord + 1
+abbrev pub inGroup : ℕ
+inGroup = grouped + 1
 
-abbrev pub groupStartWord : ℕ
-groupStartWord = inGroupWord + 1
+abbrev pub groupStart : ℕ
+groupStart = inGroup + 1
 
-abbrev pub inSliceWord : ℕ
-inSliceWord = groupStartWord + 1
+abbrev pub inSlice : ℕ
+inSlice = groupStart + 1
 
-abbrev pub endedWord : ℕ
-endedWord = inSliceWord + 1
+abbrev pub ended : ℕ
+ended = inSlice + 1
 
 -- The frame.
-abbrev pub widthWord : ℕ
-widthWord = endedWord + 1
+abbrev pub width : ℕ
+width = ended + 1
 
-abbrev pub heightWord : ℕ
-heightWord = widthWord + 1
+abbrev pub height : ℕ
+height = width + 1
 
-abbrev pub pitchWord : ℕ
-pitchWord = heightWord + 1
+abbrev pub pitch : ℕ
+pitch = height + 1
 
-abbrev pub chromaRowWord : ℕ
-chromaRowWord = pitchWord + 1
+abbrev pub chromaRow : ℕ
+chromaRow = pitch + 1
 
 -- The picture.
-abbrev pub codingWord : ℕ
-codingWord = chromaRowWord + 1
+abbrev pub coding : ℕ
+coding = chromaRow + 1
 
-abbrev pub forwardXWord : ℕ
-forwardXWord = codingWord + 1
+abbrev pub forwardX : ℕ
+forwardX = coding + 1
 
-abbrev pub forwardYWord : ℕ
-forwardYWord = forwardXWord + 1
+abbrev pub forwardY : ℕ
+forwardY = forwardX + 1
 
-abbrev pub backwardXWord : ℕ
-backwardXWord = forwardYWord + 1
+abbrev pub backwardX : ℕ
+backwardX = forwardY + 1
 
-abbrev pub backwardYWord : ℕ
-backwardYWord = backwardXWord + 1
+abbrev pub backwardY : ℕ
+backwardY = backwardX + 1
 
-abbrev pub columnsWord : ℕ
-columnsWord = backwardYWord + 1
+abbrev pub columns : ℕ
+columns = backwardY + 1
 
-abbrev pub rowsWord : ℕ
-rowsWord = columnsWord + 1
+abbrev pub rows : ℕ
+rows = columns + 1
 
 -- The position.
-abbrev pub columnWord : ℕ
-columnWord = rowsWord + 1
+abbrev pub column : ℕ
+column = rows + 1
 
-abbrev pub rowWord : ℕ
-rowWord = columnWord + 1
+abbrev pub row : ℕ
+row = column + 1
 
 -- The previous macroblock.
-abbrev pub kindWord : ℕ
-kindWord = rowWord + 1
+abbrev pub kind : ℕ
+kind = row + 1
 
-abbrev pub fiveWord : ℕ
-fiveWord = kindWord + 1
+abbrev pub five : ℕ
+five = kind + 1
 
-abbrev pub sixWord : ℕ
-sixWord = fiveWord + 1
+abbrev pub six : ℕ
+six = five + 1
 
-abbrev pub sevenWord : ℕ
-sevenWord = sixWord + 1
+abbrev pub seven : ℕ
+seven = six + 1
 
-abbrev pub eightWord : ℕ
-eightWord = sevenWord + 1
+abbrev pub eight : ℕ
+eight = seven + 1
 
 -- What is touched.
-abbrev pub sourceEndWord : ℕ
-sourceEndWord = eightWord + 1
+abbrev pub sourceEnd : ℕ
+sourceEnd = eight + 1
 
-abbrev pub reconstructedEndWord : ℕ
-reconstructedEndWord = sourceEndWord + 1
+abbrev pub reconstructedEnd : ℕ
+reconstructedEnd = sourceEnd + 1
 
-abbrev pub forwardEndWord : ℕ
-forwardEndWord = reconstructedEndWord + 1
+abbrev pub forwardEnd : ℕ
+forwardEnd = reconstructedEnd + 1
 
-abbrev pub backwardEndWord : ℕ
-backwardEndWord = forwardEndWord + 1
+abbrev pub backwardEnd : ℕ
+backwardEnd = forwardEnd + 1
 
 -- The state's own.
-abbrev pub atWord : ℕ
-atWord = backwardEndWord + 1
+abbrev pub at : ℕ
+at = backwardEnd + 1
 
-abbrev pub heldWord : ℕ
-heldWord = atWord + 1
+abbrev pub held : ℕ
+held = at + 1
 
-abbrev pub stoppedWord : ℕ
-stoppedWord = heldWord + 1
+abbrev pub stopped : ℕ
+stopped = held + 1
 
-abbrev pub numberWord : ℕ
-numberWord = stoppedWord + 1
+abbrev pub number : ℕ
+number = stopped + 1
 
-abbrev pub placeWord : ℕ
-placeWord = numberWord + 1
+abbrev pub place : ℕ
+place = number + 1
 
 -- The lengths.
-abbrev pub sourceLengthWord : ℕ
-sourceLengthWord = placeWord + 1
+abbrev pub sourceLength : ℕ
+sourceLength = place + 1
 
-abbrev pub reconstructedLengthWord : ℕ
-reconstructedLengthWord = sourceLengthWord + 1
+abbrev pub reconstructedLength : ℕ
+reconstructedLength = sourceLength + 1
 
-abbrev pub forwardLengthWord : ℕ
-forwardLengthWord = reconstructedLengthWord + 1
+abbrev pub forwardLength : ℕ
+forwardLength = reconstructedLength + 1
 
-abbrev pub backwardLengthWord : ℕ
-backwardLengthWord = forwardLengthWord + 1
+abbrev pub backwardLength : ℕ
+backwardLength = forwardLength + 1

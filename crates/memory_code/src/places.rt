@@ -1,5 +1,5 @@
-// The words of lent memory: where each field of the state stands. A field to come takes the first word of
-// the room behind the last.
+// The words of lent memory: where each field of the state stands, under the names of the definitions (`specs/Places.antt` of `memory`).
+// A field to come takes the first word of the room behind the last.
 
 // The words of the buffer come first.
 pub(crate) const BUFFER_WORDS: usize = 61;

@@ -92,7 +92,7 @@ fn take_row(progress: Progress, words: &[u32]) -> Taken
             &words[at..end],
         );
         let Step::Kept(f, b) = step else {
-            return taken(progress, column, at, forward, backward, words);
+            break;
         };
         forward = f;
         backward = b;
@@ -100,7 +100,7 @@ fn take_row(progress: Progress, words: &[u32]) -> Taken
         was = at;
         at = end;
         if fields_code::bits(four, 26, 26) != 0 {
-            return taken(progress, column, at, forward, backward, words);
+            break;
         }
         due = due_bits(fields_code::is_set(four, 31), false);
     }

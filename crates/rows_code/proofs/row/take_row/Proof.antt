@@ -4,8 +4,11 @@ use native.Mathlib.Omega.{arith}
 use borrow.Author.Needs.{needs}
 use lib.ListN.{length, take, drop}
 use mathlib.Core.Bool.{Bool, false}
-use mathlib.Core.Logic.{inl}
-use mathlib.Core.Path.{refl, sym, ap, subst, _∙_}
+use mathlib.Core.List.{List}
+use mathlib.Core.Logic.{_⊎_, inl, inr}
+use mathlib.Core.Path.{_≡_, refl, sym, ap, subst, _∙_}
+use Rattle.prediction.specs.declared.Extent.{Extent}
+use Rattle.progress.specs.declared.Progress.{Progress}
 use Rattle.rows.specs.Steps.{Found, StepFrom}
 use Rattle.rows.specs.Words.{dueBits}
 use Rattle.rows.specs.declared.Step.{Step}
@@ -122,33 +125,11 @@ enum-known-step c = search needs
 enum-told : tie.Need-enum-told Inv-loop μ-loop
 enum-told c = search needs
 
-taken-requires : tie.Need-taken-requires Inv-loop μ-loop
-taken-requires c κs =
-    let l = c .before .before .before .before .before .before .before .loop in
-    (l .inv .room, λ e. (omega (arith, l .inv .going .at-is), omega (arith, l .inv .going .at-is, l .inv .going .column-is)))
-
-returns : tie.Need-returns Inv-loop μ-loop
-returns c =
-    let a = c .before .before .before .before .before .before .before .before .before .before .before .before .before .before .before .before .before .args in
-    let l = c .before .before .before .before .before .before .before .before .loop in
-    taken-from (a .progress) (a .words .now) (l .column) (l .at) (l .forward) (l .backward) (c .taken .result) (l .inv .room) (l .inv .going) (c .taken .ensures)
-
 add-column : tie.Need-add-column Inv-loop μ-loop
 add-column c = search needs
 
 bits-requires : tie.Need-bits-requires Inv-loop μ-loop
 bits-requires c κs = search needs
-
-taken-requires-2 : tie.Need-taken-requires-2 Inv-loop μ-loop
-taken-requires-2 c κs =
-    (enough (c .before .before .before .before .before .before .before .before .before), λ e. (omega arith, omega arith))
-
-returns-2 : tie.Need-returns-2 Inv-loop μ-loop
-returns-2 c =
-    let d = c .before .before .before in
-    let a = d .before .before .before .before .before .before .before .before .before .before .before .before .before .before .before .before .before .args in
-    let l = d .before .before .before .before .before .before .before .before .loop in
-    taken-from (a .progress) (a .words .now) (l .column + 1) (l .at + 9) _ _ (c .taken2 .result) (enough (d .before .before .before .before .before .before .before)) (behind d) (c .taken2 .ensures)
 
 is-set-requires : tie.Need-is-set-requires Inv-loop μ-loop
 is-set-requires c κs = search needs
@@ -176,16 +157,43 @@ loop-again c =
           (c .due-bits2 .ensures ∙ ap (λ (x : Bool). dueBits x false) (c .before .is-set .ensures));
     }
 
-taken-requires-3 : tie.Need-taken-requires-3 Inv-loop μ-loop
-taken-requires-3 c κs =
-    let l = c .before .loop in
-    (l .inv .room, λ e. (omega (arith, l .inv .going .at-is), omega (arith, l .inv .going .at-is, l .inv .going .column-is)))
+-- The loop is left by its test or behind one of the two breaks: the words before word `at` are commands of the row.
+cases : {A B C : Type 0} → A ⊎ B → (A → C) → (B → C) → C
+cases (inl a) f g = f a
+cases (inr b) f g = g b
 
-returns-3 : tie.Need-returns-3 Inv-loop μ-loop
-returns-3 c =
+abbrev Before : Progress → List ℕ → ℕ → Extent → Extent → ℕ → Type 0
+Before p ws column f b at = (at ≤ length ws) × Going p ws column f b at
+
+same-place : (p : Progress) (ws : List ℕ) {column column′ at at′ : ℕ} {f f′ b b′ : Extent} → column ≡ column′ → f ≡ f′ → b ≡ b′ → at ≡ at′
+    → Before p ws column′ f′ b′ at′ → Before p ws column f b at
+same-place p ws ec ef eb ea h = rw (ec, ef, eb, ea) h
+
+left : (c : tie.Left-loop Inv-loop μ-loop) → let a = c .before .before .before .before .before .before .before .before .before .before .args in
+    Before (a .progress) (a .words .now) (c .loop-test .column) (c .loop-test .forward) (c .loop-test .backward) (c .loop-test .at)
+left c =
+    let a = c .before .before .before .before .before .before .before .before .before .before .args in
+    let l = c .before .loop in
+    let here : Before (a .progress) (a .words .now) (l .column) (l .forward) (l .backward) (l .at) = (l .inv .room, l .inv .going) in
+    cases (c .loop-test .came)
+    (λ t. same-place (a .progress) (a .words .now) (t .1) (t .2) (t .3) (t .5) here)
+    (λ s. cases s
+    (λ t. same-place (a .progress) (a .words .now) (t .7) (t .8) (t .9) (t .11) here)
+    (λ t. let i : tie.In-loop Inv-loop μ-loop = record { before = c .before; loop-test = t .0 } in
+    let n : tie.After-judge-next Inv-loop μ-loop = record { before = record { before = record { before = record { before = i; shared-slice-known2 = t .1 }; judge-next-arg = t .2 }; judge-next-arg2 = t .3 }; judge-next = t .4 } in
+    let d : tie.After-known-told Inv-loop μ-loop = record { before = record { before = record { before = n; match = t .5 }; step = t .6 }; known-told = t .7 } in
+    same-place (a .progress) (a .words .now) (t .10) (t .11) (t .12) (t .14) (enough i, behind d)))
+
+taken-requires : tie.Need-taken-requires Inv-loop μ-loop
+taken-requires c κs =
+    let g = left c .1 in
+    (left c .0, λ e. (omega (arith, g .at-is), omega (arith, g .at-is, g .column-is)))
+
+returns : tie.Need-returns Inv-loop μ-loop
+returns c =
     let a = c .before .before .before .before .before .before .before .before .before .before .before .args in
-    let l = c .before .before .loop in
-    taken-from (a .progress) (a .words .now) (l .column) (l .at) (l .forward) (l .backward) (c .taken3 .result) (l .inv .room) (l .inv .going) (c .taken3 .ensures)
+    let e = c .before .loop-test in
+    taken-from (a .progress) (a .words .now) (e .column) (e .at) (e .forward) (e .backward) (c .taken .result) (left (c .before) .0) (left (c .before) .1) (c .taken .ensures)
 
 pub take-row-spec : {M : Type 1} → statement M
 take-row-spec =
@@ -212,15 +220,11 @@ take-row-spec =
     judge-next-requires
     enum-known-step
     enum-told
-    taken-requires
-    returns
     add-column
     bits-requires
-    taken-requires-2
-    returns-2
     is-set-requires
     due-bits-requires-2
     loop-less
     loop-again
-    taken-requires-3
-    returns-3)
+    taken-requires
+    returns)
