@@ -38,7 +38,7 @@ abbrev pub judged : List Rule → Answer
 judged [] = Accepted
 judged (r ∷ rs) = earlier (answerBy r) (judged rs)
 
--- A rule of a table by its number and place: whether it holds.
+-- A rule of a table by its number and place: whether it holds; true where there is none.
 abbrev pub holdsAt : ℕ → ℕ → List Rule → Bool
 holdsAt n p [] = true
 holdsAt n p (r ∷ rs) = cond (eqb (r .number) n && eqb (r .place) p) (r .holds) (holdsAt n p rs)

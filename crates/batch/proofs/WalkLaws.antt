@@ -17,8 +17,8 @@ use Rattle.progress.specs.declared.Progress.{Progress}
 use Rattle.sequence.specs.Judging.{judge}
 use Rattle.progress.specs.declared.Verdict.{Verdict}
 use Rattle.progress.specs.declared.Verdict.the-variants.{Next, Stop}
-use Rattle.commands.specs.Commands.{nextIn}
-use Rattle.commands.proofs.Gathering.{byNext, gathered, first-whole, by-next}
+use Rattle.commands.specs.Commands.{nextIn, byNext}
+use Rattle.commands.proofs.Gathering.{gathered, first-whole, by-next}
 use Rattle.batch.specs.Walk.{Walk, going, stopped, limit, after, step, walkOf}
 use Rattle.batch.specs.declared.Walked.the-variants.{Going}
 

@@ -14,10 +14,9 @@ use Rattle.headers.specs.Words.{wordAt}
 use Rattle.progress.specs.declared.Progress.{Progress}
 use Rattle.sequence.specs.Judging.{judge}
 use Rattle.sequence.proofs.SequenceLaws.{noop-passes}
-use Rattle.commands.specs.Commands.{nextIn}
+use Rattle.commands.specs.Commands.{nextIn, byNext}
 use Rattle.commands.specs.declared.NextCommand.{NextCommand}
 use Rattle.commands.specs.declared.NextCommand.the-variants.{Unknown, Incomplete, Whole}
-use Rattle.commands.proofs.Gathering.{byNext}
 use Rattle.batch.specs.Walk.{Walk, going, stopped, limit, after, step, walkOf}
 use Rattle.batch.specs.declared.Walked.the-variants.{Going}
 use Rattle.batch.proofs.WalkLaws.{stays, walk-next, full, used-within}

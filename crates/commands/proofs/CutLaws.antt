@@ -11,10 +11,10 @@ use Rattle.headers.specs.Headers.{headerOf, wordsIn, begins}
 use Rattle.headers.specs.Words.{wordAt}
 use Rattle.headers.specs.declared.Header.{Header}
 use Rattle.headers.specs.declared.Opcode.the-variants.{Macroblock}
-use Rattle.commands.specs.Commands.{Command, command, nextIn, cut, macroblocksIn}
+use Rattle.commands.specs.Commands.{Command, command, nextIn, cut, macroblocksIn, byNext}
 use Rattle.commands.specs.declared.NextCommand.{NextCommand}
 use Rattle.commands.specs.declared.NextCommand.the-variants.{Unknown, Incomplete, Whole}
-use Rattle.commands.proofs.Gathering.{byNext, by-next}
+use Rattle.commands.proofs.Gathering.{by-next}
 
 -- The words that are cut from a place on.
 module _ (at : ℕ) where

@@ -14,15 +14,9 @@ use Rattle.headers.specs.Headers.{table, lookUp, headerOf, wordsIn}
 use Rattle.headers.specs.Words.{wordAt}
 use Rattle.headers.specs.declared.Header.{Header}
 use Rattle.headers.proofs.HeaderLaws.{head-stays}
-use Rattle.commands.specs.Commands.{nextIn}
+use Rattle.commands.specs.Commands.{nextIn, byNext}
 use Rattle.commands.specs.declared.NextCommand.{NextCommand}
 use Rattle.commands.specs.declared.NextCommand.the-variants.{Unknown, Incomplete, Whole}
-
--- By what words begin with.
-abbrev pub byNext : {A : Type 0} → A → A → (Header → ℕ → A) → NextCommand → A
-byNext none more whole Unknown = none
-byNext none more whole Incomplete = more
-byNext none more whole (Whole h n) = whole h n
 
 -- `read g ws` reads the words `ws` behind the words `g` of a command that begins at `base`, all of them before `top`: `unknown`, with
 -- a first word that names no command, `none`; `more`, with a word with which it is not whole; `last`, with its last word, `done`.

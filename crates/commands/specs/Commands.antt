@@ -32,6 +32,12 @@ command at h ws = record { place = at; header = h; words = ws }
 unfoldable pub nextIn : List ℕ → NextCommand
 nextIn ws = bySize (headerOf (wordAt ws 0)) (length ws) Unknown Incomplete (Whole (headerOf (wordAt ws 0)) (wordsIn (headerOf (wordAt ws 0))))
 
+-- By what words begin with: no command; more words are to come; a whole one.
+abbrev pub byNext : {A : Type 0} → A → A → (Header → ℕ → A) → NextCommand → A
+byNext none more whole Unknown = none
+byNext none more whole Incomplete = more
+byNext none more whole (Whole h n) = whole h n
+
 -- The commands of words, after the words `g` of a command that begins at `at`: words are gathered until they are as many as the
 -- first of them says. Cutting ends at a word that names no command; a last command that is not whole is none.
 unfoldable pub cut : ℕ → List ℕ → List ℕ → List Command
