@@ -55,9 +55,9 @@ module _ (reported : Reported) (l : Lengths) where
   abbrev turns : Bool → Bool → Bool → Bool → List Rule
   turns s r f k = rule 13 0 s ∷ rule 13 1 r ∷ rule 13 2 f ∷ rule 13 3 k ∷ []
 
-  in-turn : measured reported l ≡ reporting reported (firstBroken (turns (long source) (long reconstructed) (long forward) (long backward)))
+  lowest-first : measured reported l ≡ reporting reported (firstBroken (turns (long source) (long reconstructed) (long forward) (long backward)))
   unfolding measured bufferRules
-  in-turn = ap (reporting reported) (in-order (bufferRules (reported .extents) l) tt)
+  lowest-first = ap (reporting reported) (in-order (bufferRules (reported .extents) l) tt)
 
   pub outcome : Outcome reported l
   outcome = by (long source) (long reconstructed) (long forward) (long backward) refl refl refl refl
@@ -69,9 +69,9 @@ module _ (reported : Reported) (l : Lengths) where
       not-so b h = leb-false (lengthIn b reported) (lengthOf b l) h
 
       by : (s r f k : Bool) → long source ≡ s → long reconstructed ≡ r → long forward ≡ f → long backward ≡ k → Outcome reported l
-      by false r f k es er ef ek = short source (not-so source es) (λ b h. absurd (omega arith)) (in-turn ∙ simp es)
-      by true false f k es er ef ek = short reconstructed (not-so reconstructed er) (below-1 (yes source es)) (in-turn ∙ simp (es, er))
-      by true true false k es er ef ek = short forward (not-so forward ef) (below-2 (yes source es) (yes reconstructed er)) (in-turn ∙ simp (es, er, ef))
+      by false r f k es er ef ek = short source (not-so source es) (λ b h. absurd (omega arith)) (lowest-first ∙ simp es)
+      by true false f k es er ef ek = short reconstructed (not-so reconstructed er) (below-1 (yes source es)) (lowest-first ∙ simp (es, er))
+      by true true false k es er ef ek = short forward (not-so forward ef) (below-2 (yes source es) (yes reconstructed er)) (lowest-first ∙ simp (es, er, ef))
       by true true true false es er ef ek =
-          short backward (not-so backward ek) (below-3 (yes source es) (yes reconstructed er) (yes forward ef)) (in-turn ∙ simp (es, er, ef, ek))
-      by true true true true es er ef ek = enough (all-four (yes source es) (yes reconstructed er) (yes forward ef) (yes backward ek)) (in-turn ∙ simp (es, er, ef, ek))
+          short backward (not-so backward ek) (below-3 (yes source es) (yes reconstructed er) (yes forward ef)) (lowest-first ∙ simp (es, er, ef, ek))
+      by true true true true es er ef ek = enough (all-four (yes source es) (yes reconstructed er) (yes forward ef) (yes backward ek)) (lowest-first ∙ simp (es, er, ef, ek))

@@ -9,6 +9,7 @@ use Rattle.fields.proofs.Elements.{elements-all}
 use Rattle.fields.proofs.Fields.{flag-nonzero}
 use Rattle.fields.specs.Bytes.{elements}
 use Rattle.parts.specs.declared.State.{State}
+use Rattle.memory.specs.Places.{bufferWords}
 use Rattle.memory.specs.Memory.{storedBuffer, stateIn, fieldsOf, placed, room, stateWords}
 
 length-elements : (xs : List ℕ) (i k : ℕ) → length (elements xs i k) ≡ k
@@ -21,15 +22,15 @@ elements-at xs i (suc k) zero h = ap (λ (n : ℕ). getD xs n 0) (sym (add-zero 
 elements-at xs i (suc k) (suc j) h =
     elements-at xs (suc i) k j (omega arith) ∙ ap (λ (n : ℕ). getD xs n 0) (let e : suc i + j ≡ i + suc j = omega arith in e)
 
-pub buffer-length : (m : List ℕ) → length (storedBuffer m) ≡ 61
+pub buffer-length : (m : List ℕ) → length (storedBuffer m) ≡ bufferWords
 unfolding storedBuffer
-buffer-length m = length-map (elements m 0 61) (λ w. w % 2 ^ 32) ∙ length-elements m 0 61
+buffer-length m = length-map (elements m 0 bufferWords) (λ w. w % 2 ^ 32) ∙ length-elements m 0 bufferWords
 
-pub buffer-at : (m : List ℕ) (i : ℕ) → i < 61 → getD (storedBuffer m) i 0 ≡ getD m i 0 % 2 ^ 32
+pub buffer-at : (m : List ℕ) (i : ℕ) → i < bufferWords → getD (storedBuffer m) i 0 ≡ getD m i 0 % 2 ^ 32
 unfolding storedBuffer
 buffer-at m i h =
-    List·getD-map (λ w. w % 2 ^ 32) (elements m 0 61) i 0
-    ∙ ap (λ (n : ℕ). n % 2 ^ 32) (elements-at m 0 61 i h ∙ ap (λ (n : ℕ). getD m n 0) (zero-add i))
+    List·getD-map (λ w. w % 2 ^ 32) (elements m 0 bufferWords) i 0
+    ∙ ap (λ (n : ℕ). n % 2 ^ 32) (elements-at m 0 bufferWords i h ∙ ap (λ (n : ℕ). getD m n 0) (zero-add i))
 
 -- Numbers of a state that fit their types: the words of it that are cut when they are read.
 pub record Fitting (s : State) : Type 0 where
@@ -53,7 +54,7 @@ pub record Fitting (s : State) : Type 0 where
   pub eight : s .progress .previous .eight < 2 ^ 32
   pub at : s .at < 2 ^ 32
   pub number : s .number < 2 ^ 8
-  pub held-words : length (s .buffer) ≡ 61
+  pub held-words : length (s .buffer) ≡ bufferWords
   pub buffer : (i : ℕ) → getD (s .buffer) i 0 < 2 ^ 32
 
 -- Words of 32 bits are not cut.
@@ -62,15 +63,15 @@ uncut xs i zero h = refl
 uncut xs i (suc k) h = ap₂ (λ (w : ℕ) (ws : List ℕ). w ∷ ws) (mod-eq-of-lt (h i)) (uncut xs (suc i) k h)
 
 -- The buffer as its words, one by one: then memory computes.
-listed : (s : State) → Fitting s → elements (s .buffer) 0 61 ≡ s .buffer
-listed s f = elements-all (s .buffer) 61 (f .held-words)
+listed : (s : State) → Fitting s → elements (s .buffer) 0 bufferWords ≡ s .buffer
+listed s f = elements-all (s .buffer) bufferWords (f .held-words)
 
 abbrev memoryWith : State → List ℕ → List ℕ
 memoryWith s buffer = placed (fieldsOf s) (buffer ++ room)
 
-buffer-back : (s : State) → Fitting s → storedBuffer (memoryWith s (elements (s .buffer) 0 61)) ≡ s .buffer
+buffer-back : (s : State) → Fitting s → storedBuffer (memoryWith s (elements (s .buffer) 0 bufferWords)) ≡ s .buffer
 unfolding storedBuffer
-buffer-back s f = uncut (s .buffer) 0 61 (f .buffer) ∙ listed s f
+buffer-back s f = uncut (s .buffer) 0 bufferWords (f .buffer) ∙ listed s f
 
 -- What is read of a state that was stored is that state.
 pub stored-read : (s : State) → Fitting s → stateIn (stateWords s) ≡ s

@@ -12,11 +12,12 @@ use progress::Stage;
 ghost use mathlib.Core.Path.{_≡_};
 ghost use mathlib.Core.List.{_++_};
 ghost use lib.ListN.{length, drop};
+ghost use Rattle.memory.specs.Places.{memoryWords, bufferWords};
 ghost use Rattle.memory.specs.Memory.{stageFields, frameFields, pictureFields, positionFields, previousFields, extentsFields, progressFields, ownFields, lengthsFields, placed, stateIn, stateWords};
 
 fn put_buffer(buffer: [u32; places::BUFFER_WORDS], memory: &mut [u64; memory::WORDS])
-    requires { ⌜ length (now memory) ≡ 128 ⌝ }
-    ensures { λ _. ⌜ now (memory .exit) ≡ buffer ++ drop 61 (now (memory .entry)) ⌝ }
+    requires { ⌜ length (now memory) ≡ memoryWords ⌝ }
+    ensures { λ _. ⌜ now (memory .exit) ≡ buffer ++ drop bufferWords (now (memory .entry)) ⌝ }
 {
     let mut i = 0;
     while i < places::BUFFER_WORDS {

@@ -6,6 +6,7 @@ use native.Mathlib.Omega.{arith}
 use borrow.Author.Needs.{needs}
 use lib.ListN.{take, replicate}
 use lib.Seq.{paste, paste-zero, take-all}
+use Rattle.memory.specs.Places.{bufferWords}
 use Rattle.memory.specs.Memory.{storedBuffer}
 use Rattle.memory.proofs.MemoryLaws.{buffer-length, buffer-at}
 use Rattle.memory_code.proofs.CopyLaws.{copied-one}
@@ -13,13 +14,13 @@ use Rattle.memory_code.proofs.reading.buffer_in.Statement.{statement}
 use Rattle.memory_code.proofs.reading.buffer_in.Tie as tie
 
 abbrev Inv-loop : tie.InvT-loop
-Inv-loop memory buffer₀ i₀ buffer i = (i ≤ 61) × (buffer ≡ paste buffer₀ 0 (storedBuffer memory) i)
+Inv-loop memory buffer₀ i₀ buffer i = (i ≤ bufferWords) × (buffer ≡ paste buffer₀ 0 (storedBuffer memory) i)
 
 abbrev μ-loop : tie.MeasureT-loop
-μ-loop memory buffer₀ i₀ buffer i = 61 - i
+μ-loop memory buffer₀ i₀ buffer i = bufferWords - i
 
 loop-holds : tie.Need-loop-holds Inv-loop μ-loop
-loop-holds c = (omega arith, paste-zero (replicate 61 0) 0 (storedBuffer (c .args .memory .now)))
+loop-holds c = (omega arith, paste-zero (replicate bufferWords 0) 0 (storedBuffer (c .args .memory .now)))
 
 mul-buffer : tie.Need-mul-buffer Inv-loop μ-loop
 mul-buffer c = search needs
@@ -47,17 +48,17 @@ loop-again c =
     let l = c .before .before .loop in
     let m = c .before .before .before .args .memory .now in
     let more = c .before .loop-test .taken in
-    (search needs, copied-one (replicate 61 0) (storedBuffer m) (l .i) (l .buffer) _ more (omega (arith, buffer-length m)) (sym (buffer-at m (l .i) more)) (l .inv .1))
+    (search needs, copied-one (replicate bufferWords 0) (storedBuffer m) (l .i) (l .buffer) _ more (omega (arith, buffer-length m)) (sym (buffer-at m (l .i) more)) (l .inv .1))
 
 returns : tie.Need-returns Inv-loop μ-loop
 returns c =
     let l = c .before .loop in
     let m = c .before .before .args .memory .now in
-    let e : l .i ≡ 61 = omega (arith, l .inv .0, c .loop-test .left) in
+    let e : l .i ≡ bufferWords = omega (arith, l .inv .0, c .loop-test .left) in
     l .inv .1
-    ∙ ap (paste (replicate 61 0) 0 (storedBuffer m)) e
-    ∙ append-nil (take 61 (storedBuffer m))
-    ∙ take-all 61 (storedBuffer m) (omega (arith, buffer-length m))
+    ∙ ap (paste (replicate bufferWords 0) 0 (storedBuffer m)) e
+    ∙ append-nil (take bufferWords (storedBuffer m))
+    ∙ take-all bufferWords (storedBuffer m) (omega (arith, buffer-length m))
 
 pub buffer-in-spec : {M : Type 1} → statement M
 buffer-in-spec =

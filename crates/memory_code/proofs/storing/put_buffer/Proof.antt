@@ -6,15 +6,16 @@ use native.Mathlib.Omega.{arith}
 use borrow.Author.Needs.{needs}
 use lib.ListN.{drop}
 use lib.Seq.{paste, paste-zero, take-all}
+use Rattle.memory.specs.Places.{bufferWords}
 use Rattle.memory_code.proofs.CopyLaws.{copied-one}
 use Rattle.memory_code.proofs.storing.put_buffer.Statement.{statement}
 use Rattle.memory_code.proofs.storing.put_buffer.Tie as tie
 
 abbrev Inv-loop : tie.InvT-loop
-Inv-loop memory₀ buffer i₀ memory i = (i ≤ 61) × (memory ≡ paste memory₀ 0 buffer i)
+Inv-loop memory₀ buffer i₀ memory i = (i ≤ bufferWords) × (memory ≡ paste memory₀ 0 buffer i)
 
 abbrev μ-loop : tie.MeasureT-loop
-μ-loop memory₀ buffer i₀ memory i = 61 - i
+μ-loop memory₀ buffer i₀ memory i = bufferWords - i
 
 loop-holds : tie.Need-loop-holds Inv-loop μ-loop
 loop-holds c = (omega arith, paste-zero (c .args .memory .now) 0 (c .args .t1))
@@ -50,10 +51,10 @@ returns : tie.Need-returns Inv-loop μ-loop
 returns c =
     let l = c .before .loop in
     let a = c .before .before .args in
-    let e : l .i ≡ 61 = omega (arith, l .inv .0, c .loop-test .left) in
+    let e : l .i ≡ bufferWords = omega (arith, l .inv .0, c .loop-test .left) in
     l .inv .1
     ∙ ap (paste (a .memory .now) 0 (a .t1)) e
-    ∙ ap (λ (b : List ℕ). b ++ drop 61 (a .memory .now)) (take-all 61 (a .t1) (search needs))
+    ∙ ap (λ (b : List ℕ). b ++ drop bufferWords (a .memory .now)) (take-all bufferWords (a .t1) (search needs))
 
 pub put-buffer-spec : {M : Type 1} → statement M
 put-buffer-spec =

@@ -3,6 +3,7 @@ use mir.Syntax.{w32}
 use mathlib.Core.Path.{_≡_, ap, _∙_}
 use Prim.Native.Nat.{ℕ}
 use borrow.Author.Needs.{needs, length-unmapped, elem-fits-field}
+use Rattle.memory.specs.Places.{bufferWords}
 use Rattle.memory.specs.Memory.{stateIn, stateWords}
 use Rattle.memory.proofs.MemoryLaws.{Fitting, stored-read}
 use Rattle.memory_code.proofs.storing.state_words.Statement.{statement}
@@ -55,7 +56,7 @@ fitting c =
       eight = previous .1 .1 .1 .1 .0 .1;
       at = state .1 .0 .1;
       number = state .1 .1 .1 .1 .0 .1;
-      held-words = length-unmapped ℕ (c .args .state .buffer) 61 (buffer .1 .0 .1);
+      held-words = length-unmapped ℕ (c .args .state .buffer) bufferWords (buffer .1 .0 .1);
       buffer = λ i. elem-fits-field w32 w32 (c .args .state .buffer) (buffer .0) i (buffer .1 .1) tt .fits;
     }
 
