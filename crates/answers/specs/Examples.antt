@@ -1,0 +1,45 @@
+-- Worked examples of a table of rules: what is judged, and which rules of the table the papers say that it breaks.
+-- To be believed: the statements over such lists say no more than these definitions.
+use Prim.Native.Nat.{ℕ}
+use mathlib.Core.Bool.{Bool, true, false, cond, _&&_, _||_}
+use mathlib.Core.List.{List, [], _∷_, map}
+use lib.Dec.{eqb}
+use Rattle.answers.specs.Answers.{Rule}
+
+-- What is judged, and the number and the place of each rule that it breaks.
+pub record Example (A : Type 0) : Type 0 where
+  pub given : A
+  pub breaks : List (ℕ × ℕ)
+
+-- One that keeps every rule, and one that breaks one rule and no other.
+abbrev pub keeping : {A : Type 0} → A → Example A
+keeping a = record { given = a; breaks = [] }
+
+abbrev pub breaking : {A : Type 0} → ℕ → ℕ → A → Example A
+breaking n p a = record { given = a; breaks = (n, p) ∷ [] }
+
+-- The number and the place of each rule of a table that does not hold.
+abbrev pub brokenIn : List Rule → List (ℕ × ℕ)
+brokenIn [] = []
+brokenIn (r ∷ rs) = cond (r .holds) (brokenIn rs) ((r .number, r .place) ∷ brokenIn rs)
+
+-- What a table finds of examples, and what is due.
+abbrev pub found : {A : Type 0} → (A → List Rule) → List (Example A) → List (List (ℕ × ℕ))
+found table examples = map (λ x. brokenIn (table (x .given))) examples
+
+abbrev pub due : {A : Type 0} → List (Example A) → List (List (ℕ × ℕ))
+due examples = map (λ x. x .breaks) examples
+
+-- Whether an example shows a rule: the rule with that number and place is what it breaks.
+abbrev pub named : Rule → List (ℕ × ℕ) → Bool
+named r [] = false
+named r ((n, p) ∷ rest) = (eqb (r .number) n && eqb (r .place) p) || named r rest
+
+abbrev pub shownBy : {A : Type 0} → List (Example A) → Rule → Bool
+shownBy [] r = false
+shownBy (x ∷ xs) r = named r (x .breaks) || shownBy xs r
+
+-- Every rule of a table is shown by an example that breaks it.
+abbrev pub allShown : {A : Type 0} → List (Example A) → List Rule → Bool
+allShown examples [] = true
+allShown examples (r ∷ rs) = shownBy examples r && allShown examples rs
