@@ -7,13 +7,10 @@ use native.Mathlib.Omega.{arith}
 use borrow.Author.Tests.{not-true, not-false, ltb-true, ltb-false, lt-ltb, le-ltb, eqb-true, eqb-false, eq-eqb, ne-eqb}
 use lib.Dec.{T, eqb, leb, ltb, leb→le}
 use Rattle.lists.proofs.Booleans.{no, both, either}
-use Rattle.answers.specs.Answers.{Rule, earlier, answerBy, judged, holdsAt, unless}
+use Rattle.answers.specs.Answers.{Rule, earlier, answerBy, judged, holdsAt, unless, before}
 use Rattle.answers.specs.declared.Answer.{Answer}
 use Rattle.answers.specs.declared.Answer.the-variants.{Accepted, Refused}
-
--- number m at place q is before n at p
-abbrev pub before : ℕ → ℕ → ℕ → ℕ → Bool
-before m q n p = ltb q p || (eqb q p && ltb m n)
+use Rattle.answers.specs.Tables.{firstBroken, after, ascending, Hold, within}
 
 is-before : (m q n p : ℕ) → before m q n p ≡ true → (q ≤ p) × (q ≡ p → m < n)
 is-before m q n p e = by (ltb q p) (eqb q p) (ltb m n) refl refl refl e
@@ -99,19 +96,6 @@ pub judged-append : (rs ss : List Rule) → judged (rs ++ ss) ≡ earlier (judge
 judged-append [] ss = refl
 judged-append (r ∷ rs) ss = ap (earlier (answerBy r)) (judged-append rs ss) ∙ earlier-assoc (answerBy r) (judged rs) (judged ss)
 
--- A table in order is judged from its beginning: the first rule that does not hold is the answer.
-abbrev pub firstBroken : List Rule → Answer
-firstBroken [] = Accepted
-firstBroken (r ∷ rs) = cond (r .holds) (firstBroken rs) (Refused (r .number) (r .place))
-
-abbrev pub after : ℕ → ℕ → List Rule → Bool
-after n p [] = true
-after n p (r ∷ rs) = not (before (r .number) (r .place) n p) && after n p rs
-
-abbrev pub ascending : List Rule → Bool
-ascending [] = true
-ascending (r ∷ rs) = after (r .number) (r .place) rs && ascending rs
-
 -- an answer that is not before n at p
 abbrev late : ℕ → ℕ → Answer → Bool
 late n p Accepted = true
@@ -179,11 +163,6 @@ accepted (Refused n p) = false
 pub no-accepted : {n p : ℕ} → Refused n p ≡ Accepted → ⊥
 no-accepted e = no (ap accepted e)
 
--- Nothing is refused exactly when every rule holds.
-abbrev pub Hold : List Rule → Type 0
-Hold [] = Unit {0}
-Hold (r ∷ rs) = (r .holds ≡ true) × Hold rs
-
 pub all-hold : (rs : List Rule) → judged rs ≡ Accepted → Hold rs
 all-hold [] e = tt
 all-hold (r ∷ rs) e = let h = both-accepted (r .holds) (judged rs) e in (h .0, all-hold rs (h .1))
@@ -223,11 +202,6 @@ hold-each (r ∷ rs) ss h = let k = hold-each rs ss (h .1) in ((h .0, k .0), k .
 -- Two tables that refuse nothing together refuse nothing alone.
 pub both-accept : (rs ss : List Rule) → judged (rs ++ ss) ≡ Accepted → (judged rs ≡ Accepted) × (judged ss ≡ Accepted)
 both-accept rs ss e = let h = hold-each rs ss (all-hold (rs ++ ss) e) in (none-broken rs (h .0), none-broken ss (h .1))
-
--- A table whose rules have numbers from 1 to m and places up to n refuses with such a number and place.
-abbrev pub within : ℕ → ℕ → List Rule → Bool
-within m n [] = true
-within m n (r ∷ rs) = (leb 1 (r .number) && leb (r .number) m) && (leb (r .place) n && within m n rs)
 
 abbrev pub Within : ℕ → ℕ → Answer → Type 0
 Within m n Accepted = Unit {0}

@@ -15,11 +15,15 @@ abbrev pub placeOf : Answer → ℕ
 placeOf Accepted = 0
 placeOf (Refused n p) = p
 
--- Of two answers the one that is given. Document 01: "words upwards, and in a word the smaller number first."
+-- Number m at place q comes before n at p. Document 01: "words upwards, and in a word the smaller number first."
+abbrev pub before : ℕ → ℕ → ℕ → ℕ → Bool
+before m q n p = ltb q p || (eqb q p && ltb m n)
+
+-- Of two answers the one that is given.
 abbrev pub earlier : Answer → Answer → Answer
 earlier Accepted b = b
 earlier (Refused n p) Accepted = Refused n p
-earlier (Refused n p) (Refused m q) = cond (ltb q p || (eqb q p && ltb m n)) (Refused m q) (Refused n p)
+earlier (Refused n p) (Refused m q) = cond (before m q n p) (Refused m q) (Refused n p)
 
 -- A rule: the number and the place (a word of the command, a byte of the record) with which it refuses, and whether it holds.
 pub record Rule : Type 0 where

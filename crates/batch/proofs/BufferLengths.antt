@@ -19,9 +19,10 @@ use Rattle.batch.specs.declared.Report.{Report}
 use Rattle.batch.specs.declared.Report.the-variants.{Accepted, Short}
 use Rattle.batch.specs.declared.Reported.{Reported}
 use Rattle.batch.proofs.Exactness.{touched-exact}
-use Rattle.batch.proofs.Measuring.{Outcome, enough, short, outcome}
+use Rattle.batch.proofs.Measuring.{outcome}
 use Rattle.batch.proofs.Numbers.{verdict-numbers}
 use Rattle.batch.proofs.Runs.{gone-through}
+use Rattle.batch.specs.Outcomes.{Outcome, enough, short}
 
 -- A batch that passes keeps every rule.
 pub passed-keeps : (r : Report) → reportNumber r ≡ 0 → KeepsOthers r

@@ -2,16 +2,15 @@
 use mathlib.Core.Bool.{Bool, true, false, cond}
 use mathlib.Core.List.{List, [], _∷_, foldl}
 use mathlib.Core.Path.{_≡_, refl, sym, ap, _∙_}
-use Prim.Native.Nat.{ℕ, _+_, _*_, _/_, _%_, _≤_, _<_}
+use Prim.Native.Nat.{ℕ, _+_, _*_, _/_, _%_, _≤_}
 use native.Mathlib.Nat.{add-zero, zero-add}
 use native.Mathlib.Omega.{arith}
-use lib.ListN.{length, getD}
+use lib.ListN.{length}
 use Rattle.lists.proofs.Booleans.{no}
 use Rattle.fields.specs.Word.{flag}
 use Rattle.answers.specs.Answers.{judged}
 use Rattle.answers.specs.declared.Answer.the-variants.{Accepted}
 use Rattle.headers.specs.Headers.{begins}
-use Rattle.macroblock.specs.Macroblocks.{macroblockOf}
 use Rattle.headers.specs.declared.Header.{Header}
 use Rattle.headers.specs.declared.Opcode.{Opcode}
 use Rattle.headers.specs.declared.Opcode.the-variants.{Surface, Picture, Macroblock}
@@ -23,11 +22,13 @@ use Rattle.progress.specs.declared.Verdict.the-variants.{Next}
 use Rattle.placement.proofs.PositionLaws.{own-position, in-group, position-of}
 use Rattle.sequence.specs.Judging.{rulesOf, nextOf, judge}
 use Rattle.sequence.proofs.JudgingLaws.{goes-on}
-use Rattle.sequence.proofs.SequenceLaws.{macroblock-rules, all-come, said-next, surface-once, picture-once, Sound, fresh-sound, countOf, sound-next}
-use Rattle.commands.specs.Commands.{Command, commandsOf, macroblocksIn, lastSaid, batchFrame, batchPicture, InOrder, howMany}
+use Rattle.sequence.proofs.SequenceLaws.{macroblock-rules, all-come, said-next, surface-once, picture-once, fresh-sound, sound-next}
+use Rattle.commands.specs.Commands.{Command, commandsOf, macroblocksIn, lastSaid, batchPicture, InOrder, howMany}
 use Rattle.commands.proofs.ListLaws.{in-order-at}
 use Rattle.batch.specs.Walk.{going, step, start}
-use Rattle.batch.proofs.Runs.{Run, batch-runs}
+use Rattle.batch.proofs.Runs.{batch-runs}
+use Rattle.batch.specs.Listed.{Run, Listed}
+use Rattle.sequence.specs.Sound.{Sound, countOf}
 
 -- A command that comes once and says something, as SURFACE and PICTURE do: how to read it off a progress, and what one command
 -- changes of it.
@@ -144,18 +145,6 @@ run-order p (c ∷ cs) q r s =
           rw k at rest,
         )
     by rest false e k = rw (k ∙ add-zero (countOf p)) at rest
-
--- What the list of commands says of a walk that was not refused.
-pub record Listed (ws : List ℕ) (p : Progress) : Type 0 where
-  pub count : countOf p ≡ length (macroblocksIn (commandsOf ws))
-  pub order : (k : ℕ) → k < length (macroblocksIn (commandsOf ws))
-      → (macroblockOf (getD (macroblocksIn (commandsOf ws)) k []) .column ≡ k % batchPicture ws .grid .columns)
-      × (macroblockOf (getD (macroblocksIn (commandsOf ws)) k []) .row ≡ k / batchPicture ws .grid .columns)
-  pub frame : p .frame ≡ batchFrame ws
-  pub picture : p .picture ≡ batchPicture ws
-  pub surfaces : howMany Surface (commandsOf ws) ≤ 1
-  pub pictures : howMany Picture (commandsOf ws) ≤ 1
-  pub full : p .stage .ended ≡ true → length (macroblocksIn (commandsOf ws)) ≡ batchPicture ws .grid .rows * batchPicture ws .grid .columns
 
 nothing-yet : countOf fresh ≡ 0
 unfolding fresh

@@ -25,12 +25,14 @@ use Rattle.placement.proofs.PositionLaws.{in-group, position-of}
 use Rattle.placement.proofs.TouchLaws.{next-exact}
 use Rattle.sequence.specs.Judging.{judge}
 use Rattle.sequence.proofs.JudgingLaws.{goes-on}
-use Rattle.sequence.proofs.SequenceLaws.{macroblock-rules, macroblock-next, others-touch-nothing, Sound, fresh-sound, countOf}
+use Rattle.sequence.proofs.SequenceLaws.{macroblock-rules, macroblock-next, others-touch-nothing, fresh-sound}
 use Rattle.commands.specs.Commands.{Command, commandsOf, macroblocksIn, batchFrame, batchPicture}
 use Rattle.batch.specs.Touched.{positionIn, Touched}
 use Rattle.batch.specs.Walk.{going, step, start}
 use Rattle.batch.proofs.CommandList.{frame-kept, picture-kept, next-sound, listed}
-use Rattle.batch.proofs.Runs.{Run, batch-runs}
+use Rattle.batch.proofs.Runs.{batch-runs}
+use Rattle.batch.specs.Listed.{Run}
+use Rattle.sequence.specs.Sound.{Sound, countOf}
 
 abbrev position : ℕ → ℕ → Position
 position x y = record { column = x; row = y }

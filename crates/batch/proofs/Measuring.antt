@@ -7,18 +7,13 @@ use native.Mathlib.Omega.{arith}
 use borrow.Author.Tests.{leb-true, leb-false}
 use lib.Dec.{leb}
 use Rattle.answers.specs.Answers.{Rule, rule}
-use Rattle.answers.proofs.Judging.{firstBroken, in-order}
+use Rattle.answers.proofs.Judging.{in-order}
 use Rattle.progress.specs.Buffers.{Buffer, source, reconstructed, forward, backward, bufferNumber}
 use Rattle.batch.specs.Reports.{lengthIn, lengthOf, bufferRules, reporting, measured}
 use Rattle.batch.specs.declared.Lengths.{Lengths}
-use Rattle.batch.specs.declared.Report.the-variants.{Accepted, Short}
 use Rattle.batch.specs.declared.Reported.{Reported}
-
--- All buffers are long enough, or one is the lowest that is not.
-pub data Outcome (r : Reported) (l : Lengths) : Type 0 where
-  enough : ((b : Buffer) → lengthIn b r ≤ lengthOf b l) → measured r l ≡ Accepted r → Outcome r l
-  short : (c : Buffer) → lengthOf c l < lengthIn c r → ((b : Buffer) → bufferNumber b < bufferNumber c → lengthIn b r ≤ lengthOf b l)
-      → measured r l ≡ Short 13 (bufferNumber c) r → Outcome r l
+use Rattle.answers.specs.Tables.{firstBroken}
+use Rattle.batch.specs.Outcomes.{Outcome, enough, short}
 
 module _ (reported : Reported) (l : Lengths) where
   abbrev Long : Buffer → Type 0

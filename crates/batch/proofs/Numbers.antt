@@ -20,7 +20,8 @@ use Rattle.batch.specs.Walk.{Walk, going, stopped, limit, after, step, s
 use Rattle.batch.specs.declared.Lengths.{Lengths}
 use Rattle.batch.specs.declared.Report.the-variants as answers
 use Rattle.batch.specs.declared.Reported.{Reported}
-use Rattle.batch.proofs.Measuring.{Outcome, enough, short, outcome}
+use Rattle.batch.proofs.Measuring.{outcome}
+use Rattle.batch.specs.Outcomes.{Outcome, enough, short}
 
 -- the numbers with which a walk stops
 abbrev StopNumber : ℕ → Type 0

@@ -7,7 +7,7 @@ use native.Mathlib.Omega.{arith}
 use lib.ListN.{length, getD}
 use Rattle.answers.specs.Answers.{judged}
 use Rattle.answers.specs.declared.Answer.the-variants.{Accepted}
-use Rattle.headers.specs.Headers.{macroblockHeader, headerOf, wordsIn, begins}
+use Rattle.headers.specs.Headers.{headerOf, wordsIn, begins}
 use Rattle.headers.specs.Words.{wordAt}
 use Rattle.headers.specs.declared.Opcode.the-variants.{Macroblock}
 use Rattle.headers.proofs.HeaderLaws.{macroblock-word, macroblock-words}
@@ -20,17 +20,8 @@ use Rattle.sequence.proofs.SequenceLaws.{macroblock-rules}
 use Rattle.commands.specs.Commands.{Command, commandsOf, macroblocksIn}
 use Rattle.commands.proofs.ListLaws.{AllWhole, cut-whole}
 use Rattle.batch.specs.Walk.{going, step, start}
-use Rattle.batch.proofs.Runs.{Run, batch-runs}
-
--- What is asked of a MACROBLOCK command's words to be read alone: its header, nine words, and the rules of a command alone.
-pub record Alone (m : List ℕ) : Type 0 where
-  pub header : wordAt m 0 ≡ macroblockHeader
-  pub nine : 9 ≤ length m
-  pub kept : judged (commandRules m) ≡ Accepted
-
-abbrev pub AllAlone : List (List ℕ) → Type 0
-AllAlone [] = Unit {0}
-AllAlone (m ∷ ms) = Alone m × AllAlone ms
+use Rattle.batch.proofs.Runs.{batch-runs}
+use Rattle.batch.specs.Listed.{Run, Alone, AllAlone}
 
 -- one MACROBLOCK command
 read-alone : (c : Command) → begins Macroblock (c .header) ≡ true → c .header ≡ headerOf (wordAt (c .words) 0) → wordsIn (c .header) ≤ length (c .words)

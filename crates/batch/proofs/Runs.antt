@@ -23,11 +23,7 @@ use Rattle.commands.specs.Commands.{Command, cut, commandsOf}
 use Rattle.batch.specs.Reports.{ending, verdictOf}
 use Rattle.batch.specs.Walk.{Walk, going, stopped, limit, after, settled, step, start}
 use Rattle.batch.proofs.WalkLaws.{stays, Short}
-
--- From progress `p` to progress `q` by commands, none of which is refused.
-abbrev pub Run : Progress → List Command → Progress → Type 0
-Run p [] q = p ≡ q
-Run p (c ∷ cs) q = (t : Progress) × (judge (c .header) p (c .words) ≡ Next t) × Run t cs q
+use Rattle.batch.specs.Listed.{Run}
 
 refused : (n place : ℕ) (ws : List ℕ) {at : ℕ} {q : Progress} {g : List ℕ} → foldl step (stopped n place) ws ≡ going at q g → ⊥
 refused n place ws e = apart (sym (stays n place ws) ∙ e)

@@ -2,3 +2,5 @@ pub mod Demand
 pub mod Reports
 pub mod Touched
 pub mod Walk
+pub mod Outcomes
+pub mod Listed

@@ -6,7 +6,7 @@ use Prim.Native.Nat.{ℕ, _*_, _≤_, _<_}
 use native.Mathlib.Omega.{arith}
 use borrow.Author.Tests.{ltb-false}
 use lib.Dec.{ltb}
-use lib.ListN.{length, getD, take, drop, replicate}
+use lib.ListN.{length, getD, drop, replicate}
 use Rattle.lists.proofs.Slices.{piece-at, pieces-length, front-length, front-beyond}
 use Rattle.answers.specs.declared.Answer.the-variants as alone
 use Rattle.macroblock.specs.Macroblocks.{macroblockOf}
@@ -23,24 +23,12 @@ use Rattle.batch.specs.declared.Report.the-variants.{Accepted, Short, Refused}
 use Rattle.batch.specs.declared.Reported.{Reported}
 use Rattle.batch.proofs.BufferLengths.{passed-keeps, kept-verdict}
 use Rattle.batch.proofs.Numbers.{accepted-by-0}
-use Rattle.batch.proofs.ReadAlone.{Alone, macroblocks-alone, alone-at}
+use Rattle.batch.proofs.ReadAlone.{macroblocks-alone, alone-at}
 use Rattle.batch.proofs.Runs.{gone-through}
-use Rattle.decoding.specs.Logs.{recordAlone, logOf, logLength, roomed, decoded, logAfter, decodedLog}
+use Rattle.decoding.specs.Logs.{recordAlone, logOf, logLength, roomed, decoded, logAfter, decodedLog, Decoded}
 use Rattle.decoding.proofs.Outcomes.{has-ended}
 use Rattle.decoding.proofs.RoomLaws.{not-passed, unwritten, not-accepted, lacking, roomy}
-
--- What stands in a log after decoding a batch into it. `before` is the whole log before, `after` the whole log afterwards.
-pub record Decoded (ws before after : List ℕ) : Type 0 where
-  -- W·H macroblocks have come, and their log fits
-  pub count : length (macroblocksIn (commandsOf ws)) ≡ batchPicture ws .grid .columns * batchPicture ws .grid .rows
-  pub fits : logLength (batchPicture ws .grid) ≤ length before
-  pub same-length : length after ≡ length before
-  -- "the k-th macroblock's at the k-th place": the record of the k-th MACROBLOCK command, as that command read alone gives it
-  pub record-at : (k : ℕ) → k < length (macroblocksIn (commandsOf ws))
-      → (readAnswer (getD (macroblocksIn (commandsOf ws)) k []) (replicate recordLength 0) ≡ alone.Accepted)
-      × (take recordLength (drop (recordLength * k) after) ≡ readRoom (getD (macroblocksIn (commandsOf ws)) k []) (replicate recordLength 0))
-  -- "bytes beyond stay"
-  pub beyond : drop (logLength (batchPicture ws .grid)) after ≡ drop (logLength (batchPicture ws .grid)) before
+use Rattle.batch.specs.Listed.{Alone}
 
 -- What a decoded batch that passes says of the check and of the room.
 module _ (needed : ℕ) (log : List ℕ) where

@@ -1,10 +1,10 @@
 -- Decoding: the log of a batch, and the answer with it. What is quoted is document 01.
-use Prim.Native.Nat.{ℕ, _*_, _≤_}
+use Prim.Native.Nat.{ℕ, _*_, _≤_, _<_}
 use mathlib.Core.Bool.{cond}
-use mathlib.Core.List.{List, _++_, map, flatten}
+use mathlib.Core.List.{List, _++_, map, flatten, []}
 use mathlib.Core.Path.{_≡_}
 use lib.Dec.{ltb}
-use lib.ListN.{length, drop}
+use lib.ListN.{length, drop, getD, take, replicate}
 use Rattle.prediction.specs.declared.Grid.{Grid}
 use Rattle.macroblock.specs.Macroblocks.{macroblockOf}
 use Rattle.records.specs.Layout.{recordLength}
@@ -14,6 +14,7 @@ use Rattle.batch.specs.Reports.{report}
 use Rattle.batch.specs.declared.Lengths.{Lengths}
 use Rattle.batch.specs.declared.Report.{Report}
 use Rattle.batch.specs.declared.Report.the-variants.{Accepted, Short, Refused}
+use Rattle.records.specs.Alone.{readAnswer, readRoom}
 
 -- The record of one command, read alone.
 abbrev pub recordAlone : List ℕ → List ℕ
@@ -53,3 +54,16 @@ DecodedInto log ws l r = r ≡ decoded l ws log
 
 abbrev pub RoomIn : List ℕ → List ℕ → Type 0
 RoomIn log ws = logLength (batchPicture ws .grid) ≤ length log
+
+-- What stands in a log after decoding a batch into it. `before` is the whole log before, `after` the whole log afterwards.
+pub record Decoded (ws before after : List ℕ) : Type 0 where
+  -- W·H macroblocks have come, and their log fits
+  pub count : length (macroblocksIn (commandsOf ws)) ≡ batchPicture ws .grid .columns * batchPicture ws .grid .rows
+  pub fits : logLength (batchPicture ws .grid) ≤ length before
+  pub same-length : length after ≡ length before
+  -- "the k-th macroblock's at the k-th place": the record of the k-th MACROBLOCK command, as that command read alone gives it
+  pub record-at : (k : ℕ) → k < length (macroblocksIn (commandsOf ws))
+      → (readAnswer (getD (macroblocksIn (commandsOf ws)) k []) (replicate recordLength 0) ≡ alone.Accepted)
+      × (take recordLength (drop (recordLength * k) after) ≡ readRoom (getD (macroblocksIn (commandsOf ws)) k []) (replicate recordLength 0))
+  -- "bytes beyond stay"
+  pub beyond : drop (logLength (batchPicture ws .grid)) after ≡ drop (logLength (batchPicture ws .grid)) before

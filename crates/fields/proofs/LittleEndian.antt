@@ -6,13 +6,8 @@ use native.Mathlib.Nat.{pow-zero, pow-suc}
 use native.Mathlib.Omega.{arith}
 use lib.ListN.{length}
 use Rattle.fields.specs.Word.{withBits}
-use Rattle.fields.specs.Bytes.{bytesOf, numberIn}
+use Rattle.fields.specs.Bytes.{bytesOf, numberIn, Bytes}
 use Rattle.fields.proofs.Fields.{on-top}
-
--- every element is a byte
-abbrev pub Bytes : List ℕ → Type 0
-Bytes [] = Unit {0}
-Bytes (b ∷ bs) = (b < 256) × Bytes bs
 
 -- The bytes of the number that k bytes stand for are those bytes.
 pub bytes-back : (bs : List ℕ) → Bytes bs → bytesOf (length bs) (numberIn bs) ≡ bs

@@ -10,16 +10,7 @@ use lib.Pow.{pow-pos}
 use Rattle.lists.proofs.Booleans.{both}
 use Rattle.fields.specs.Word.{Field, width, bits, withBits, packed}
 use Rattle.fields.proofs.Fields.{packed-back, field-kept, with-bits-lt, agree-up, same-below-32}
-
--- What the listed fields put into `h:l`.
-abbrev pub valueIn : List Field → ℕ → ℕ → ℕ
-valueIn [] h l = 0
-valueIn (f ∷ fs) h l = cond (eqb h (f .hi) && eqb l (f .lo)) (f .value % 2 ^ width h l) (valueIn fs h l)
-
--- `h:l` is a field of the list, or lies wholly apart from all that stand before it.
-abbrev pub clear : List Field → ℕ → ℕ → Bool
-clear [] h l = true
-clear (f ∷ fs) h l = cond (eqb h (f .hi) && eqb l (f .lo)) true ((ltb h (f .lo) || ltb (f .hi) l) && clear fs h l)
+use Rattle.fields.specs.Pieces.{valueIn, clear, Piece, tiles, Agree}
 
 is-true : (a : Bool) → a ≡ true → T a
 is-true a e = subst T (sym e) tt
@@ -47,24 +38,6 @@ packed-field (f ∷ fs) h l t = by (packed-field fs h l) (eqb h (f .hi) && eqb l
 pub packed-lt : (fs : List Field) → packed fs < 2 ^ 32
 packed-lt [] = omega arith
 packed-lt (f ∷ fs) = with-bits-lt (packed fs) (f .hi) (f .lo) (f .value) (packed-lt fs)
-
--- Bits `hi:lo` of a word, and lists of them.
-pub record Piece : Type 0 where
-  pub hi : ℕ
-  pub lo : ℕ
-
-abbrev pub piece : ℕ → ℕ → Piece
-piece hi lo = record { hi = hi; lo = lo }
-
--- The pieces follow each other from bit k up to bit 31, and each is clear of the fields.
-abbrev pub tiles : List Field → ℕ → List Piece → Bool
-tiles fs k [] = eqb k 32
-tiles fs k (p ∷ ps) = eqb k (p .lo) && (leb (p .lo) (p .hi) && (ltb (p .hi) 32 && (clear fs (p .hi) (p .lo) && tiles fs (p .hi + 1) ps)))
-
--- The fields put into each piece what the word has there.
-abbrev pub Agree : List Field → ℕ → List Piece → Type 0
-Agree fs w [] = Unit {0}
-Agree fs w (p ∷ ps) = (valueIn fs (p .hi) (p .lo) ≡ bits w (p .hi) (p .lo)) × Agree fs w ps
 
 module _ (fs : List Field) (w : ℕ) where
   from : (ps : List Piece) (k : ℕ) → T (tiles fs k ps) → Agree fs w ps → packed fs % 2 ^ k ≡ w % 2 ^ k → packed fs % 2 ^ 32 ≡ w % 2 ^ 32

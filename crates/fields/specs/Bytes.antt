@@ -1,5 +1,5 @@
 -- Numbers as little-endian bytes: the lowest byte stands first.
-use Prim.Native.Nat.{ℕ, zero, suc, _+_, _*_, _/_, _%_}
+use Prim.Native.Nat.{ℕ, zero, suc, _+_, _*_, _/_, _%_, _<_}
 use mathlib.Core.List.{List, [], _∷_}
 use lib.ListN.{getD}
 
@@ -17,3 +17,8 @@ numberIn (b ∷ bs) = b + 256 * numberIn bs
 abbrev pub elements : List ℕ → ℕ → ℕ → List ℕ
 elements xs i zero = []
 elements xs i (suc k) = getD xs i 0 ∷ elements xs (suc i) k
+
+-- every element is a byte
+abbrev pub Bytes : List ℕ → Type 0
+Bytes [] = Unit {0}
+Bytes (b ∷ bs) = (b < 256) × Bytes bs

@@ -1,9 +1,9 @@
 -- Numbers and words as bytes of a text in ASCII.
 use Prim.Native.Char.{code}
-use Prim.Native.Nat.{ℕ, zero, suc, _+_, _/_, _%_}
+use Prim.Native.Nat.{ℕ, zero, suc, _+_, _*_, _-_, _/_, _%_}
 use Prim.Native.String as string
 use mathlib.Core.Bool.{cond}
-use mathlib.Core.List.{List, [], _∷_, _++_}
+use mathlib.Core.List.{List, [], _∷_, _++_, foldl}
 use lib.Dec.{ltb}
 
 -- The bytes of a text.
@@ -23,6 +23,10 @@ digits (suc k) n = cond (ltb n 10) (digit n ∷ []) (digits k (n / 10) ++ (digit
 -- A number of 64 bits in decimal: at most twenty digits.
 unfoldable pub decimal : ℕ → List ℕ
 decimal n = digits 20 n
+
+-- The number that digits stand for.
+abbrev pub valueOf : List ℕ → ℕ
+valueOf bytes = foldl (λ (v b : ℕ). 10 * v + (b - 48)) 0 bytes
 
 -- Each number with a space before it.
 abbrev pub spaced : List ℕ → List ℕ

@@ -9,7 +9,7 @@ use borrow.Author.Tests.{lt-ltb, le-ltb, ltb-false}
 use lib.Dec.{ltb}
 use lib.ListN.{length, getD, length-append}
 use Rattle.io.specs.Digits as kit
-use Rattle.input.specs.Text.{digit, digits, decimal, spaced}
+use Rattle.input.specs.Text.{digit, digits, decimal, spaced, valueOf}
 
 pub spaced-append : (xs ys : List ℕ) → spaced (xs ++ ys) ≡ spaced xs ++ spaced ys
 spaced-append [] ys = refl
@@ -25,10 +25,6 @@ then-spaced base xs ys d e =
     ∙ ap (λ (x : List ℕ). x ++ spaced ys) d
     ∙ append-assoc base (spaced xs) (spaced ys)
     ∙ ap (λ (x : List ℕ). base ++ x) (sym (spaced-append xs ys))
-
--- The number that digits stand for.
-abbrev pub valueOf : List ℕ → ℕ
-valueOf bytes = foldl (λ (v b : ℕ). 10 * v + (b - 48)) 0 bytes
 
 digits-value : (k n : ℕ) → n < 10 ^ k → valueOf (digits k n) ≡ n
 digits-value zero n h = omega (arith, pow-zero 10)

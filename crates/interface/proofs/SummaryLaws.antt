@@ -1,22 +1,12 @@
 -- The fields of the answers' structs, in the order of their declaration.
-use mathlib.Core.List.{List, [], _∷_}
+use mathlib.Core.List.{[], _∷_}
 use mathlib.Core.Path.{_≡_, refl}
-use Prim.Native.Nat.{ℕ}
 use Rattle.answers.specs.Answers as answer
 use Rattle.answers.specs.declared.Answer.{Answer}
 use Rattle.batch.specs.Reports.{reportNumber, reportPlace, reportedOf}
 use Rattle.batch.specs.declared.Report.{Report}
 use Rattle.batch.specs.declared.Report.the-variants.{Accepted, Short, Refused}
-use Rattle.interface.specs.Summaries.{summaryOf, outcomeOf}
-use Rattle.interface.specs.declared.Outcome.{Outcome}
-use Rattle.interface.specs.declared.Summary.{Summary}
-
-abbrev pub summaryFields : Summary → List ℕ
-summaryFields s =
-    s .number ∷ s .place ∷ s .lengths .source ∷ s .lengths .reconstructed ∷ s .lengths .forward ∷ s .lengths .backward ∷ []
-
-abbrev pub outcomeFields : Outcome → List ℕ
-outcomeFields o = o .number ∷ o .place ∷ []
+use Rattle.interface.specs.Summaries.{summaryOf, outcomeOf, summaryFields, outcomeFields}
 
 -- They are document 01's number and place, and its four lengths in the order of the buffers.
 pub summary-fields : (r : Report) → summaryFields (summaryOf r) ≡ reportNumber r ∷ reportPlace r ∷ reportedOf r

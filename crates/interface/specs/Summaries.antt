@@ -7,6 +7,8 @@ use Rattle.batch.specs.Reports.{reportNumber, reportPlace}
 use Rattle.batch.specs.declared.Report.{Report}
 use Rattle.interface.specs.declared.Outcome.{Outcome}
 use Rattle.interface.specs.declared.Summary.{Summary}
+use mathlib.Core.List.{List, [], _∷_}
+use Prim.Native.Nat.{ℕ}
 
 -- The answer to a batch. "The four lengths are reported with 0, 13 and 14, else zeros."
 abbrev pub summaryOf : Report → Summary
@@ -26,3 +28,10 @@ summaryOf r =
 -- The answer to one command or one record.
 abbrev pub outcomeOf : Answer → Outcome
 outcomeOf a = record { number = answer.numberOf a; place = answer.placeOf a }
+
+abbrev pub summaryFields : Summary → List ℕ
+summaryFields s =
+    s .number ∷ s .place ∷ s .lengths .source ∷ s .lengths .reconstructed ∷ s .lengths .forward ∷ s .lengths .backward ∷ []
+
+abbrev pub outcomeFields : Outcome → List ℕ
+outcomeFields o = o .number ∷ o .place ∷ []

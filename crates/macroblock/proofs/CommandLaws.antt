@@ -13,7 +13,7 @@ use Rattle.lists.proofs.Booleans.{and-left, and-right, both-true}
 use Rattle.fields.specs.Word.{Field, width, bits, packed, isSet, flag, zeroBits}
 use Rattle.fields.specs.Bytes.{elements}
 use Rattle.fields.proofs.Elements.{elements-all}
-use Rattle.fields.proofs.Packing.{valueIn, clear, piece, packed-field, packed-lt, packed-is, bits-cut}
+use Rattle.fields.proofs.Packing.{packed-field, packed-lt, packed-is, bits-cut}
 use Rattle.answers.specs.Answers.{holdsAt}
 use Rattle.macroblock.specs.Cases.{motion, motionOf, caseOf, vectorWords}
 use Rattle.macroblock.specs.Legal.{Words, LegalCommand, Legal}
@@ -26,7 +26,9 @@ use Rattle.macroblock.specs.declared.Prediction.the-variants.{Forward, B
 use Rattle.macroblock.specs.declared.Macroblock.{Macroblock}
 use Rattle.macroblock.proofs.CaseLaws.{vectors-four, vectors-listed, vectors-words, case-fits, vectors-again, case-again, copies-again, type-back}
 use Rattle.macroblock.proofs.Congruence.{same-flags, same-macroblock}
-use Rattle.answers.proofs.Judging.{Hold, none-broken, hold-both, rule-kept, within}
+use Rattle.answers.proofs.Judging.{none-broken, hold-both, rule-kept}
+use Rattle.answers.specs.Tables.{Hold, within}
+use Rattle.fields.specs.Pieces.{valueIn, clear, piece}
 
 same-four : {a b c d a′ b′ c′ d′ : ℕ} → a ≡ a′ → b ≡ b′ → c ≡ c′ → d ≡ d′ → a ∷ b ∷ c ∷ d ∷ [] ≡ a′ ∷ b′ ∷ c′ ∷ d′ ∷ []
 same-four ea eb ec ed = cc

@@ -10,7 +10,7 @@ use Rattle.fields.proofs.Fields.{flag-nonzero}
 use Rattle.fields.specs.Bytes.{elements}
 use Rattle.parts.specs.declared.State.{State}
 use Rattle.memory.specs.Places.{bufferWords}
-use Rattle.memory.specs.Memory.{storedBuffer, stateIn, fieldsOf, placed, room, stateWords}
+use Rattle.memory.specs.Memory.{storedBuffer, stateIn, fieldsOf, placed, room, stateWords, Fitting}
 
 length-elements : (xs : List ℕ) (i k : ℕ) → length (elements xs i k) ≡ k
 length-elements xs i zero = refl
@@ -31,31 +31,6 @@ unfolding storedBuffer
 buffer-at m i h =
     List·getD-map (λ w. w % 2 ^ 32) (elements m 0 bufferWords) i 0
     ∙ ap (λ (n : ℕ). n % 2 ^ 32) (elements-at m 0 bufferWords i h ∙ ap (λ (n : ℕ). getD m n 0) (zero-add i))
-
--- Numbers of a state that fit their types: the words of it that are cut when they are read.
-pub record Fitting (s : State) : Type 0 where
-  pub width : s .progress .frame .width < 2 ^ 16
-  pub height : s .progress .frame .height < 2 ^ 16
-  pub pitch : s .progress .frame .surface .pitch < 2 ^ 32
-  pub chroma-row : s .progress .frame .surface .«chroma_row» < 2 ^ 16
-  pub coding : s .progress .picture .coding < 2 ^ 8
-  pub forward-x : s .progress .picture .forward .x < 2 ^ 8
-  pub forward-y : s .progress .picture .forward .y < 2 ^ 8
-  pub backward-x : s .progress .picture .backward .x < 2 ^ 8
-  pub backward-y : s .progress .picture .backward .y < 2 ^ 8
-  pub columns : s .progress .picture .grid .columns < 2 ^ 16
-  pub rows : s .progress .picture .grid .rows < 2 ^ 16
-  pub column : s .progress .position .column < 2 ^ 16
-  pub row : s .progress .position .row < 2 ^ 16
-  pub kind : s .progress .previous .kind < 2 ^ 8
-  pub five : s .progress .previous .five < 2 ^ 32
-  pub six : s .progress .previous .six < 2 ^ 32
-  pub seven : s .progress .previous .seven < 2 ^ 32
-  pub eight : s .progress .previous .eight < 2 ^ 32
-  pub at : s .at < 2 ^ 32
-  pub number : s .number < 2 ^ 8
-  pub held-words : length (s .buffer) ≡ bufferWords
-  pub buffer : (i : ℕ) → getD (s .buffer) i 0 < 2 ^ 32
 
 -- Words of 32 bits are not cut.
 uncut : (xs : List ℕ) (i k : ℕ) → ((j : ℕ) → getD xs j 0 < 2 ^ 32) → map (λ w. w % 2 ^ 32) (elements xs i k) ≡ elements xs i k

@@ -1,11 +1,11 @@
 -- The state of a check in parts, in 128 words of memory that the caller lends. The papers leave the content of these words to the
 -- program; what holds of it is what it stands for, a state of `parts`, and every content stands for one. The words of the buffer come
 -- first, then a word for each field of the state, each at its place (Places.antt); those behind them are room for fields to come.
-use Prim.Native.Nat.{ℕ, _-_, _%_, _^_}
+use Prim.Native.Nat.{ℕ, _-_, _%_, _^_, _<_}
 use mathlib.Core.Bool.{Bool, not}
 use mathlib.Core.List.{List, [], _∷_, _++_, map}
 use lib.Dec.{eqb}
-use lib.ListN.{getD, set, replicate}
+use lib.ListN.{getD, set, replicate, length}
 use Rattle.fields.specs.Bytes.{elements}
 use Rattle.fields.specs.Word.{flag}
 use Rattle.picture.specs.declared.Frame.{Frame}
@@ -18,6 +18,8 @@ use Rattle.progress.specs.declared.Stage.{Stage}
 use Rattle.batch.specs.declared.Lengths.{Lengths}
 use Rattle.parts.specs.declared.State.{State}
 use Rattle.memory.specs.Places as places
+use mathlib.Core.Path.{_≡_}
+use Rattle.memory.specs.Places.{bufferWords}
 
 -- A word, a number of so many bits in one, and a flag.
 abbrev pub storedWord : List ℕ → ℕ → ℕ
@@ -202,3 +204,28 @@ room = replicate (places.memoryWords - places.bufferWords) 0
 
 unfoldable pub stateWords : State → List ℕ
 stateWords s = placed (fieldsOf s) (s .buffer ++ room)
+
+-- Numbers of a state that fit their types: the words of it that are cut when they are read.
+pub record Fitting (s : State) : Type 0 where
+  pub width : s .progress .frame .width < 2 ^ 16
+  pub height : s .progress .frame .height < 2 ^ 16
+  pub pitch : s .progress .frame .surface .pitch < 2 ^ 32
+  pub chroma-row : s .progress .frame .surface .«chroma_row» < 2 ^ 16
+  pub coding : s .progress .picture .coding < 2 ^ 8
+  pub forward-x : s .progress .picture .forward .x < 2 ^ 8
+  pub forward-y : s .progress .picture .forward .y < 2 ^ 8
+  pub backward-x : s .progress .picture .backward .x < 2 ^ 8
+  pub backward-y : s .progress .picture .backward .y < 2 ^ 8
+  pub columns : s .progress .picture .grid .columns < 2 ^ 16
+  pub rows : s .progress .picture .grid .rows < 2 ^ 16
+  pub column : s .progress .position .column < 2 ^ 16
+  pub row : s .progress .position .row < 2 ^ 16
+  pub kind : s .progress .previous .kind < 2 ^ 8
+  pub five : s .progress .previous .five < 2 ^ 32
+  pub six : s .progress .previous .six < 2 ^ 32
+  pub seven : s .progress .previous .seven < 2 ^ 32
+  pub eight : s .progress .previous .eight < 2 ^ 32
+  pub at : s .at < 2 ^ 32
+  pub number : s .number < 2 ^ 8
+  pub held-words : length (s .buffer) ≡ bufferWords
+  pub buffer : (i : ℕ) → getD (s .buffer) i 0 < 2 ^ 32

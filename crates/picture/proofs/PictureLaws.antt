@@ -9,10 +9,11 @@ use lib.Dec.{T, leb}
 use Rattle.lists.proofs.Booleans.{and-left, and-right}
 use Rattle.answers.specs.Answers.{judged}
 use Rattle.answers.specs.declared.Answer.the-variants.{Accepted}
-use Rattle.answers.proofs.Judging.{rule-kept, within}
+use Rattle.answers.proofs.Judging.{rule-kept}
 use Rattle.picture.specs.Pictures.{pictureOf, fits, pictureRules}
 use Rattle.picture.specs.Surfaces.{surfaceRules}
 use Rattle.picture.specs.declared.Frame.{Frame}
+use Rattle.answers.specs.Tables.{within}
 
 -- They refuse with numbers 1 to 12, at words 1 to 4.
 pub surface-within : (ws : List ℕ) → T (within 12 8 (surfaceRules ws))

@@ -9,7 +9,7 @@ use Rattle.lists.proofs.Booleans.{and-left, and-right, both-true}
 use Rattle.answers.specs.Answers.{earlier, judged}
 use Rattle.answers.specs.declared.Answer.{Answer}
 use Rattle.answers.specs.declared.Answer.the-variants.{Accepted}
-use Rattle.answers.proofs.Judging.{judged-append, both-accept, rule-kept, within, within-both}
+use Rattle.answers.proofs.Judging.{judged-append, both-accept, rule-kept, within-both}
 use Rattle.headers.specs.Words.{wordAt}
 use Rattle.macroblock.specs.Macroblocks.{macroblockOf}
 use Rattle.macroblock.specs.Rules.{commandRules}
@@ -20,6 +20,7 @@ use Rattle.placement.specs.Blocks.{blocksOf}
 use Rattle.placement.specs.Placing.{zeroVectors, repeats, placedRules, macroblockRules}
 use Rattle.placement.specs.Progressing.{previousOf, progressAfter, macroblockNext}
 use Rattle.placement.specs.declared.Blocks.{Blocks}
+use Rattle.answers.specs.Tables.{within}
 
 -- the answer, from the answers to the two tables
 pub judged-whole : (p : Progress) (ws : List ℕ) {m : Macroblock} {b : Blocks} {a d f : Answer} → m ≡ macroblockOf ws

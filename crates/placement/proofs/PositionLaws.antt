@@ -18,7 +18,7 @@ use Rattle.prediction.specs.declared.Position.{Position}
 use Rattle.macroblock.specs.Macroblocks.{macroblockOf}
 use Rattle.progress.specs.declared.Progress.{Progress}
 use Rattle.placement.specs.Placing.{placedRules, macroblockRules}
-use Rattle.placement.specs.Progressing.{positionAfter, countBefore, stageAfter, progressAfter, macroblockNext}
+use Rattle.placement.specs.Progressing.{positionAfter, countBefore, stageAfter, progressAfter, macroblockNext, Reached}
 
 -- The next position is in its row, and one more macroblock comes before it.
 pub next-position : (g : Grid) (at : Position) → at .row < g .rows → at .column < g .columns
@@ -36,10 +36,6 @@ next-position g at l h = rw (lt-ltb (at .row) (g .rows) l) (by (ltb (at .column 
         let one : at .column + 1 ≡ g .columns = omega arith in
         let row : (at .row + 1) * g .columns ≡ at .row * g .columns + 1 * g .columns = add-mul (at .row) 1 (g .columns) in
         (omega arith, omega (arith, row, one))
-
--- A position of a picture, or the one after all of them: the first of the row behind the last.
-abbrev pub Reached : Grid → Position → Type 0
-Reached g at = (at .row < g .rows) ⊎ ((at .row ≡ g .rows) × (at .column ≡ 0))
 
 pub next-reached : (g : Grid) (at : Position) → at .row < g .rows → Reached g (positionAfter g at)
 unfolding positionAfter

@@ -1,5 +1,5 @@
 -- How far a batch has come after a MACROBLOCK command.
-use Prim.Native.Nat.{ℕ, _+_, _*_}
+use Prim.Native.Nat.{ℕ, _+_, _*_, _<_}
 use mathlib.Core.Bool.{false, cond, not}
 use mathlib.Core.List.{List}
 use lib.Dec.{ltb}
@@ -17,6 +17,8 @@ use Rattle.progress.specs.declared.Progress.{Progress}
 use Rattle.progress.specs.declared.Stage.{Stage}
 use Rattle.placement.specs.Blocks.{blocksOf}
 use Rattle.placement.specs.declared.Blocks.{Blocks}
+use mathlib.Core.Logic.{_⊎_}
+use mathlib.Core.Path.{_≡_}
 
 -- The position after a position: the next column, or the first of the next row. Behind the last row there is none.
 unfoldable pub positionAfter : Grid → Position → Position
@@ -70,3 +72,7 @@ progressAfter p b m ws =
 
 unfoldable pub macroblockNext : Progress → List ℕ → Progress
 macroblockNext p ws = progressAfter p (blocksOf p (macroblockOf ws .case)) (macroblockOf ws) ws
+
+-- A position of a picture, or the one after all of them: the first of the row behind the last.
+abbrev pub Reached : Grid → Position → Type 0
+Reached g at = (at .row < g .rows) ⊎ ((at .row ≡ g .rows) × (at .column ≡ 0))

@@ -11,15 +11,15 @@ use lib.ListN.{length, getD}
 use Rattle.fields.proofs.Fields.{flag-back}
 use Rattle.lists.proofs.Booleans.{and-left, and-right, both-true}
 use Rattle.fields.specs.Word.{isSet, flag, packed}
-use Rattle.fields.specs.Bytes.{bytesOf, numberIn, elements}
+use Rattle.fields.specs.Bytes.{bytesOf, numberIn, elements, Bytes}
 use Rattle.fields.proofs.Elements.{elements-all}
-use Rattle.fields.proofs.LittleEndian.{Bytes, bytes-back, number-back}
-use Rattle.fields.proofs.Packing.{piece, packed-field, packed-is}
+use Rattle.fields.proofs.LittleEndian.{bytes-back, number-back}
+use Rattle.fields.proofs.Packing.{packed-field, packed-is}
 use Rattle.prediction.specs.Vectors.{vectorOf}
 use Rattle.prediction.proofs.TwosComplement.{vector-word-back}
 use Rattle.answers.specs.Answers.{judged, holdsAt}
 use Rattle.answers.specs.declared.Answer.the-variants.{Accepted}
-use Rattle.answers.proofs.Judging.{Hold, all-hold, none-broken, hold-both, hold-each, both-accept, rule-kept}
+use Rattle.answers.proofs.Judging.{all-hold, none-broken, hold-both, hold-each, both-accept, rule-kept}
 use Rattle.macroblock.specs.Cases.{motion, motionOf, caseOf}
 use Rattle.macroblock.specs.Legal.{Legal}
 use Rattle.macroblock.specs.Rules.{keptBy}
@@ -38,6 +38,8 @@ use Rattle.records.specs.Records.{flagFields, flagsOf, valueAt, recorded
 use Rattle.records.specs.RecordRules.{hasForward, hasBackward, zeroBytes, unusedPart, byteRules, zeroRules, recordRules}
 use Rattle.records.proofs.FlagsByte.{flags-lt, flags-fit}
 use Rattle.records.proofs.Spelling.{bytesBy, flag-most, flag-fits, spelled}
+use Rattle.answers.specs.Tables.{Hold}
+use Rattle.fields.specs.Pieces.{piece}
 
 flags-back : (f : Flags) → flagsOf (packed (flagFields f)) ≡ f
 flags-back f =

@@ -10,9 +10,8 @@ use lib.ListN.{length, take, drop, replicate}
 use lib.Seq.{take-at}
 use Rattle.answers.proofs.LendingLaws.{writes}
 use Rattle.answers.specs.Lending.{lentAfter, roomFor}
-use Rattle.fields.specs.Bytes.{elements}
+use Rattle.fields.specs.Bytes.{elements, Bytes}
 use Rattle.fields.proofs.Elements.{elements-take}
-use Rattle.fields.proofs.LittleEndian.{Bytes}
 use Rattle.answers.specs.Answers.{judged, next}
 use Rattle.answers.specs.declared.Answer.{Answer}
 use Rattle.answers.specs.declared.Answer.the-variants.{Accepted, Refused}

@@ -7,10 +7,11 @@ use native.Mathlib.Omega.{arith}
 use borrow.Author.Tests.{eq-eqb, ne-eqb}
 use lib.Dec.{T}
 use lib.ListN.{getD}
-use Rattle.answers.specs.Answers.{judged}
+use Rattle.answers.specs.Answers.{judged, before}
 use Rattle.answers.specs.declared.Answer.the-variants.{Accepted, Refused}
-use Rattle.answers.proofs.Judging.{before, after-place, after, ascending, in-order}
+use Rattle.answers.proofs.Judging.{after-place, in-order}
 use Rattle.records.specs.RecordRules.{zeroBytes}
+use Rattle.answers.specs.Tables.{after, ascending}
 
 both : (a b : Bool) → T a → T b → T (a && b)
 both true b s t = t

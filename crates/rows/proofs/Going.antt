@@ -27,7 +27,8 @@ use Rattle.rows.specs.Steps.{placeIn, reachIn, Found}
 use Rattle.rows.specs.Words.{dueBits}
 use Rattle.rows.specs.declared.Taken.{Taken}
 use Rattle.rows.proofs.Keeping.{accepted}
-use Rattle.rows.proofs.Taking.{Stands, found-joins, next-is}
+use Rattle.rows.proofs.Taking.{found-joins, next-is}
+use Rattle.rows.specs.Keeping.{Stands}
 
 -- The k-th command of words.
 abbrev pub commandAt : List ℕ → ℕ → List ℕ

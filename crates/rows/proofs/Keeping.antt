@@ -21,13 +21,14 @@ use Rattle.macroblock.specs.Rules.{keptBy, typePermitted, fixed1, fixed3, fixed
 use Rattle.macroblock.proofs.CommandLaws.{bits-lt}
 use Rattle.placement.specs.Blocks.{forwardOf, backwardOf, predicted, blocksOf}
 use Rattle.placement.specs.Progressing.{previousOf}
-use Rattle.placement.specs.Placing.{exactly, inSequence, codingPermits, zeroVectors, repeats, skipPermitted, atPosition, conversionPermitted, flagsAgree, placedRules, macroblockRules}
+use Rattle.placement.specs.Placing.{exactly, inSequence, codingPermits, zeroVectors, repeats, skipPermitted, atPosition, flagsAgree, placedRules, macroblockRules}
 use Rattle.prediction.specs.declared.Position.{Position}
 use Rattle.progress.specs.declared.Previous.{Previous}
 use Rattle.progress.specs.declared.Progress.{Progress}
 use Rattle.placement.proofs.MacroblockLaws.{zero-words}
 use Rattle.rows.specs.Steps.{AtWord}
 use Rattle.rows.specs.Words.{lowHalf, boundBits, dueBits, FlagsKept, IntraKept, Repeated, SkipKept, InterKept}
+use Rattle.rows.specs.Keeping.{Keeps}
 
 left : (p q : Bool) → T p → T (p || q)
 left true q s = tt
@@ -150,30 +151,6 @@ ends-kept four due last k = by last (k .ends)
     )
     by last (inr e) =
         (ap (λ (x : Bool). not x || isSet (bits four 31 31)) (e .0), ap (λ (x : ℕ). not (isSet x) || isSet (bits four 31 31)) (e .1))
-
--- ---- all rules of a command
-pub record Keeps (q : Progress) (c : List ℕ) : Type 0 where
-  pub sequence : inSequence (q .stage) (q .picture .grid) (q .position) ≡ true
-  pub coding : codingPermits (q .picture .coding) (motionOf (macroblockOf c .case) .kind) ≡ true
-  pub skip : (not (macroblockOf c .skip) || skipPermitted (q .picture .coding) (q .previous) (motionOf (macroblockOf c .case) .kind) c) ≡ true
-  pub position : atPosition (q .position) (macroblockOf c) ≡ true
-  pub conversion : conversionPermitted (q .picture .coding) (macroblockOf c .flags) ≡ true
-  pub flags : flagsAgree (q .stage) (q .picture .grid) (q .position) (macroblockOf c .flags) ≡ true
-  pub forward-range : blocksOf q (macroblockOf c .case) .forward .«in_range» ≡ true
-  pub forward-inside : blocksOf q (macroblockOf c .case) .forward .inside ≡ true
-  pub backward-range : blocksOf q (macroblockOf c .case) .backward .«in_range» ≡ true
-  pub backward-inside : blocksOf q (macroblockOf c .case) .backward .inside ≡ true
-  pub fixed-1 : fixed1 (wordAt c 1) ≡ true
-  pub typed : (typePermitted (wordAt c 1) && keptBy (macroblockOf c) .«intra_not_skipped») ≡ true
-  pub skipped : (keptBy (macroblockOf c) .«skip_inside_slice» && keptBy (macroblockOf c) .«skip_pattern») ≡ true
-  pub fixed-3 : fixed3 (wordAt c 3) ≡ true
-  pub intra-pattern : keptBy (macroblockOf c) .«intra_pattern» ≡ true
-  pub fixed-4 : fixed4 (wordAt c 4) ≡ true
-  pub quantiser : keptBy (macroblockOf c) .quantiser ≡ true
-  pub five : copied c 5 0 ≡ true
-  pub six : copied c 6 1 ≡ true
-  pub seven : copied c 7 2 ≡ true
-  pub eight : copied c 8 3 ≡ true
 
 pub accepted : (q : Progress) (c : List ℕ) → Keeps q c → judged (macroblockRules q c) ≡ Accepted
 unfolding macroblockRules placedRules commandRules fieldRules vectorRules

@@ -1,5 +1,5 @@
 -- One command of a row: it keeps its rules, and the progress after it.
-use mathlib.Core.Bool.{Bool, true, false, not, _&&_, _||_}
+use mathlib.Core.Bool.{Bool, true, false, _&&_, _||_}
 use mathlib.Core.List.{List, [], _∷_}
 use mathlib.Core.Logic.{_⊎_, inl, inr}
 use mathlib.Core.Path.{_≡_, refl, sym, ap, ap₂, subst, subst₂, _∙_}
@@ -20,8 +20,7 @@ use Rattle.prediction.proofs.LineLaws.{in-lines, still-reach}
 use Rattle.prediction.proofs.ExtentLaws.{join-empty}
 use Rattle.headers.specs.Words.{wordAt}
 use Rattle.macroblock.specs.Cases.{motion, motionOf, caseOf, vectorWords}
-use Rattle.macroblock.specs.Macroblocks.{kindIn, flagsIn, macroblockOf}
-use Rattle.macroblock.specs.declared.Flags.{Flags}
+use Rattle.macroblock.specs.Macroblocks.{flagsIn, macroblockOf}
 use Rattle.picture.specs.declared.Codes.{Codes}
 use Rattle.picture.specs.declared.Frame.{Frame}
 use Rattle.picture.specs.declared.Picture.{Picture}
@@ -31,11 +30,12 @@ use Rattle.progress.specs.declared.Progress.{Progress}
 use Rattle.progress.specs.declared.Stage.{Stage}
 use Rattle.placement.specs.Blocks.{forwardOf, backwardOf, isInside, extentIn, predicted, blocksOf}
 use Rattle.placement.specs.Placing.{codingPermits}
-use Rattle.placement.specs.Progressing.{positionAfter, stageAfter, previousOf, extentsAfter, progressAfter, macroblockNext}
+use Rattle.placement.specs.Progressing.{positionAfter, previousOf, extentsAfter, progressAfter, macroblockNext}
 use Rattle.rows.specs.Rows.{afterRow, previousIn}
 use Rattle.rows.specs.Steps.{linesOf, isPredicted, typeIn, placeIn, reachIn, ForwardFits, BackwardFits, ForwardFound, BackwardFound, BothFound, IntraFound, Found}
-use Rattle.rows.specs.Words.{lowHalf, dueBits, FlagsKept, IntraKept, InterKept}
-use Rattle.rows.proofs.Keeping.{Keeps, AtPlace, at-place, Typed, typed-intra, typed-inter, keeps-intra, OfKind, keeps-inter}
+use Rattle.rows.specs.Words.{lowHalf, FlagsKept, IntraKept, InterKept}
+use Rattle.rows.proofs.Keeping.{AtPlace, at-place, Typed, typed-intra, typed-inter, keeps-intra, OfKind, keeps-inter}
+use Rattle.rows.specs.Keeping.{Joins, Stands}
 
 abbrev extents : Extent → Extent → Extent → Extent → Extents
 extents x y z w = record { source = x; reconstructed = y; forward = z; backward = w }
@@ -49,24 +49,6 @@ progress s f p at v e = record { stage = s; frame = f; picture = p; position = a
 same-progress : {s s′ : Stage} {f f′ : Frame} {p p′ : Picture} {at at′ : Position} {v v′ : Previous} {e e′ : Extents} → s ≡ s′ → f ≡ f′ → p ≡ p′ → at ≡ at′
     → v ≡ v′ → e ≡ e′ → progress s f p at v e ≡ progress s′ f′ p′ at′ v′ e′
 same-progress a b c d g h = cc
-
--- Where the batch stands before the command at a column: `q` is the progress there, `p` was that before the first of the row that
--- was taken, and `before` the command just before.
-pub record Stands (p : Progress) (column due : ℕ) (f b : Extent) (before : List ℕ) (q : Progress) : Type 0 where
-  pub open-group : q .stage .«in_group» ≡ true
-  pub due-is : due ≡ dueBits (not (q .stage .«in_slice»)) (q .stage .«group_start»)
-  pub same-frame : q .frame ≡ p .frame
-  pub same-picture : q .picture ≡ p .picture
-  pub here : q .position ≡ placeIn p column
-  pub in-columns : column < p .picture .grid .columns
-  pub in-rows : p .position .row < p .picture .grid .rows
-  pub by-chroma : chromaHighest (p .frame .surface) (p .picture .grid .rows) ≡ true
-  pub previous-is : (length before ≡ 0 → ⊥) → q .previous ≡ previousIn before
-  pub stage-next : (fl : Flags) → stageAfter (q .stage) fl ≡ stageAfter (p .stage) fl
-  pub source-next : joined (q .extents .source) (reachIn p column 0) ≡ joined (p .extents .source) (reachIn p column 0)
-  pub reconstructed-next : joined (q .extents .reconstructed) (reachIn p column 0) ≡ joined (p .extents .reconstructed) (reachIn p column 0)
-  pub forward-is : q .extents .forward ≡ f
-  pub backward-is : q .extents .backward ≡ b
 
 -- A vector that keeps its lines: its block in range and inside, and what it touches.
 pub record Fits (q : Progress) (codes : Codes) (w : ℕ) (e : Extent) : Type 0 where
@@ -88,13 +70,6 @@ fits p q column w codes hc hr h ef ep at e =
           ∙ ap (λ (x : Position). blockAt (p .frame .surface) (p .picture .grid) x (vectorOf w)) at
           ∙ two .1;
     }
-
--- What a command that is taken comes to: its rules hold, and what it touches of the references is joined.
-pub record Joins (q : Progress) (ws : List ℕ) (f b : Extent) : Type 0 where
-  pub keeps : Keeps q ws
-  pub kind-is : motionOf (macroblockOf ws .case) .kind ≡ kindIn (wordAt ws 1)
-  pub forward-next : joined (q .extents .forward) (blocksOf q (macroblockOf ws .case) .forward .extent) ≡ f
-  pub backward-next : joined (q .extents .backward) (blocksOf q (macroblockOf ws .case) .backward .extent) ≡ b
 
 module _ (q : Progress) (ws : List ℕ) (placed : AtPlace q ws) where
   joins-intra : lowHalf (wordAt ws 1) ≡ 0x3a00 → IntraKept (q .picture .coding) ws → Joins q ws (q .extents .forward) (q .extents .backward)

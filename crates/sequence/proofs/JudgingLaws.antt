@@ -7,7 +7,7 @@ use lib.Dec.{T}
 use Rattle.answers.specs.Answers.{rule, judged}
 use Rattle.answers.specs.declared.Answer.{Answer}
 use Rattle.answers.specs.declared.Answer.the-variants.{Accepted, Refused}
-use Rattle.answers.proofs.Judging.{within, within-both, judged-within}
+use Rattle.answers.proofs.Judging.{within-both, judged-within}
 use Rattle.headers.specs.declared.Header.{Header}
 use Rattle.headers.specs.declared.Header.the-variants.{Known, Carried, Unknown}
 use Rattle.headers.specs.declared.Opcode.the-variants.{Noop, End, Surface, Picture, SliceGroup, Macroblock}
@@ -20,6 +20,7 @@ use Rattle.progress.specs.declared.Verdict.the-variants.{Next, Stop}
 use Rattle.placement.proofs.MacroblockLaws.{macroblock-within}
 use Rattle.sequence.specs.Sequence.{surfacePermitted, picturePermitted}
 use Rattle.sequence.specs.Judging.{rulesOf, nextOf, judge}
+use Rattle.answers.specs.Tables.{within}
 
 rules-within : (h : Header) (p : Progress) (ws : List ℕ) → T (within 12 8 (rulesOf h p ws))
 unfolding rulesOf

@@ -3,7 +3,7 @@ use mathlib.Core.Bool.{true, false, cond, not, _&&_}
 use mathlib.Core.List.{List, [], _∷_}
 use mathlib.Core.Logic.{inl, ⊎-elim}
 use mathlib.Core.Path.{_≡_, refl, sym, ap, _∙_}
-use Prim.Native.Nat.{ℕ, _+_, _*_, _≤_, _<_}
+use Prim.Native.Nat.{ℕ, _+_, _*_, _<_}
 use native.Mathlib.Nat.{add-zero, zero-mul}
 use native.Mathlib.Omega.{arith}
 use borrow.Author.Tests.{not-true, leb-true}
@@ -24,11 +24,12 @@ use Rattle.progress.specs.Progress.{fresh}
 use Rattle.progress.specs.declared.Progress.{Progress}
 use Rattle.progress.specs.declared.Verdict.the-variants.{Next}
 use Rattle.placement.specs.Placing.{macroblockRules}
-use Rattle.placement.specs.Progressing.{countBefore, macroblockNext}
+use Rattle.placement.specs.Progressing.{macroblockNext}
 use Rattle.placement.proofs.MacroblockLaws.{row-left}
-use Rattle.placement.proofs.PositionLaws.{Reached, next-reached, Advances, advances, in-group, next-position}
+use Rattle.placement.proofs.PositionLaws.{next-reached, Advances, advances, in-group, next-position}
 use Rattle.sequence.specs.Sequence.{picturePermitted, surfaceNext, pictureNext, groupNext, endNext}
 use Rattle.sequence.specs.Judging.{rulesOf, nextOf, judge}
+use Rattle.sequence.specs.Sound.{Sound, countOf}
 
 -- What a command says of the surface and the picture: SURFACE and PICTURE their own, the others what was said before.
 pub record Said (h : Header) (p q : Progress) (ws : List ℕ) : Type 0 where
@@ -74,25 +75,9 @@ picture-once (Known Macroblock n) p ws a s = refl
 picture-once (Carried n) p ws a s = refl
 picture-once Unknown p ws a s = refl
 
--- What holds of every progress: a group is open only after PICTURE, which comes after SURFACE; before PICTURE no macroblock has
--- come; after it the pitch holds a macroblock, the next one is in a column of the picture, and no more than W·H come; after END
--- they have all come.
-pub record Sound (p : Progress) : Type 0 where
-  pub group-pictured : p .stage .«in_group» ≡ true → p .stage .pictured ≡ true
-  pub pictured-surfaced : p .stage .pictured ≡ true → p .stage .surfaced ≡ true
-  pub none-yet : p .stage .pictured ≡ false → (p .position .column ≡ 0) × (p .position .row ≡ 0)
-  pub wide : p .stage .pictured ≡ true → 16 ≤ p .frame .surface .pitch
-  pub in-row : p .stage .pictured ≡ true → p .position .column < p .picture .grid .columns
-  pub reached : p .stage .pictured ≡ true → Reached (p .picture .grid) (p .position)
-  pub ended-full : p .stage .ended ≡ true → (p .stage .pictured ≡ true) × (p .picture .grid .rows ≤ p .position .row)
-
 pub fresh-sound : Sound fresh
 unfolding fresh
 fresh-sound = record { group-pictured = λ e. e; pictured-surfaced = λ e. e; none-yet = λ e. (refl, refl); wide = λ e. absurd (no e); in-row = λ e. absurd (no e); reached = λ e. absurd (no e); ended-full = λ e. absurd (no e) }
-
--- How many macroblocks have come.
-abbrev pub countOf : Progress → ℕ
-countOf p = countBefore (p .picture .grid .columns) (p .position)
 
 macroblock-sound : (p q : Progress) → Sound p → Advances p q → p .stage .«in_group» ≡ true → p .position .row < p .picture .grid .rows
     → Sound q × (countOf q ≡ countOf p + 1)

@@ -1,2 +1,3 @@
 pub mod Judging
 pub mod Sequence
+pub mod Sound

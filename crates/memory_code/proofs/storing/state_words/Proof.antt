@@ -4,8 +4,8 @@ use mathlib.Core.Path.{_≡_, ap, _∙_}
 use Prim.Native.Nat.{ℕ}
 use borrow.Author.Needs.{needs, length-unmapped, elem-fits-field}
 use Rattle.memory.specs.Places.{bufferWords}
-use Rattle.memory.specs.Memory.{stateIn, stateWords}
-use Rattle.memory.proofs.MemoryLaws.{Fitting, stored-read}
+use Rattle.memory.specs.Memory.{stateIn, stateWords, Fitting}
+use Rattle.memory.proofs.MemoryLaws.{stored-read}
 use Rattle.memory_code.proofs.storing.state_words.Statement.{statement}
 use Rattle.memory_code.proofs.storing.state_words.Tie as tie
 
