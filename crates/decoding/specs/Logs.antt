@@ -14,6 +14,7 @@ use Rattle.batch.specs.Reports.{report}
 use Rattle.batch.specs.declared.Lengths.{Lengths}
 use Rattle.batch.specs.declared.Report.{Report}
 use Rattle.batch.specs.declared.Report.the-variants.{Accepted, Short, Refused}
+use Rattle.answers.specs.declared.Answer.the-variants as alone
 use Rattle.records.specs.Alone.{readAnswer, readRoom}
 
 -- The record of one command, read alone.

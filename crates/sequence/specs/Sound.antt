@@ -2,7 +2,6 @@
 use mathlib.Core.Bool.{true, false}
 use mathlib.Core.Path.{_≡_}
 use Prim.Native.Nat.{ℕ, _≤_, _<_}
-use Rattle.picture.proofs.PictureLaws.{wide}
 use Rattle.progress.specs.declared.Progress.{Progress}
 use Rattle.placement.specs.Progressing.{countBefore, Reached}
 
