@@ -1,4 +1,6 @@
 -- Answers in document 01's numbers and places, and rules that are judged together.
+-- To be believed: number and place of an answer, and document 01's order of rules. Of a table in order `in-order` (proofs/Judging.antt) gives its
+-- first broken rule.
 use Prim.Native.Nat.{ℕ}
 use mathlib.Core.Bool.{Bool, true, cond, _&&_, _||_}
 use mathlib.Core.List.{List, [], _∷_}

@@ -1,4 +1,5 @@
 -- Lent memory: room for what is to be written, and what it holds after an answer. What is quoted is document 01.
+-- To be believed: what lent memory holds after an answer, and when 14 is given.
 use Prim.Native.Nat.{ℕ}
 use mathlib.Core.Bool.{cond}
 use mathlib.Core.List.{List, _++_}

@@ -1,4 +1,5 @@
 -- What is said of a table of rules.
+-- Proved: against `judged`, by `in-order`, `all-hold`, `none-broken` and `judged-within` (proofs/Judging.antt).
 use mathlib.Core.Path.{_≡_}
 use mathlib.Core.Bool.{Bool, true, cond, not, _&&_}
 use mathlib.Core.List.{List, [], _∷_}

@@ -1,4 +1,5 @@
 -- Demand 3, of any operation that answers to a batch beside four lengths. What is quoted is the demand.
+-- To be believed: the demand's sentences, one by one.
 use Prim.Native.Nat.{ℕ, _+_, _≤_, _<_}
 use mathlib.Core.List.{List}
 use mathlib.Core.Logic.{_⊎_}

@@ -1,4 +1,5 @@
 -- What the list of commands says of a batch that was not refused.
+-- To be believed: where a theorem is stated by it. It is proved of every walk that was not refused, by `listed` (proofs/CommandList.antt).
 use mathlib.Core.List.{List, [], _∷_}
 use mathlib.Core.Path.{_≡_}
 use Rattle.progress.specs.declared.Progress.{Progress}

@@ -1,4 +1,5 @@
 -- What comes of measuring under lengths: all buffers are long enough, or the lowest that is not is named.
+-- Proved: against `measured`, by `outcome` (proofs/Measuring.antt).
 use mathlib.Core.Path.{_≡_}
 use Prim.Native.Nat.{_≤_, _<_}
 use Rattle.progress.specs.Buffers.{Buffer, bufferNumber}

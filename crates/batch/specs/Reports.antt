@@ -1,4 +1,5 @@
 -- What the checker answers: document 01's number and place, and what it reports.
+-- To be believed: numbers, places and what is reported with them; 13 after the whole batch.
 use Prim.Native.Nat.{ℕ, _+_}
 use mathlib.Core.Bool.{cond}
 use mathlib.Core.List.{List, foldl, map}

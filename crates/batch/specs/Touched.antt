@@ -1,4 +1,5 @@
 -- Which bytes of the picture buffers a batch touches, from the list of commands that its words cut into.
+-- To be believed: demand 3's samples. Nothing of the walk is in it.
 use Prim.Native.Nat.{ℕ, _/_, _%_, _<_}
 use mathlib.Core.List.{List, []}
 use lib.ListN.{length, getD}

@@ -1,4 +1,5 @@
 -- What a batch means: a fold over its words.
+-- To be believed: the order of commands and of 2, 1, 12 and 27. `walkOf` is the walk of what the code returns.
 use Prim.Native.Nat.{ℕ, _+_}
 use mathlib.Core.Bool.{cond}
 use mathlib.Core.List.{List, [], _∷_, _++_}

@@ -1,4 +1,5 @@
 -- The commands of a batch: its words cut by their headers alone.
+-- To be believed: how words cut into commands. `nextIn` is proved against `commandsOf`, by `cut-next` (proofs/CutLaws.antt).
 use Prim.Native.Nat.{ℕ, _+_, _/_, _%_}
 use mathlib.Core.Bool.{cond}
 use mathlib.Core.List.{List, [], _∷_, _++_}

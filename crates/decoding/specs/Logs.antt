@@ -1,4 +1,5 @@
 -- Decoding: the log of a batch, and the answer with it. What is quoted is document 01.
+-- To be believed: the answer and the log afterwards. `decodes` (proofs/DecodingLaws.antt) says the same record by record.
 use Prim.Native.Nat.{ℕ, _*_, _≤_, _<_}
 use mathlib.Core.Bool.{cond}
 use mathlib.Core.List.{List, _++_, map, flatten, []}

@@ -1,4 +1,5 @@
 -- Numbers as little-endian bytes: the lowest byte stands first.
+-- To be believed: the order of bytes. Reading and writing undo each other, by `bytes-back` and `number-back` (proofs/LittleEndian.antt).
 use Prim.Native.Nat.{ℕ, zero, suc, _+_, _*_, _/_, _%_, _<_}
 use mathlib.Core.List.{List, [], _∷_}
 use lib.ListN.{getD}

@@ -1,4 +1,5 @@
 -- What packed fields read, and the pieces that make a word up.
+-- Proved: against `packed`, by `packed-field` and `packed-is` (proofs/Packing.antt).
 use mathlib.Core.Path.{_≡_}
 use mathlib.Core.Bool.{Bool, true, cond, _&&_, _||_}
 use mathlib.Core.List.{List, [], _∷_}

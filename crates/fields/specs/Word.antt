@@ -1,4 +1,5 @@
 -- The bits of a 32-bit word, as document 01 writes them: `31:16` are bits 31 down to 16.
+-- To be believed: what `hi:lo` of a word is. Writing a field and reading it undo each other, by `packed-back` (proofs/Fields.antt).
 use Prim.Native.Nat.{ℕ, _+_, _*_, _-_, _/_, _%_, _^_, min}
 use mathlib.Core.Bool.{Bool, true, false}
 use mathlib.Core.List.{List, [], _∷_}

@@ -1,4 +1,5 @@
 -- The words that begin a command.
+-- To be believed: document 01's table of headers.
 use Prim.Native.Nat.{ℕ}
 use mathlib.Core.Bool.{Bool, false, cond}
 use mathlib.Core.List.{List, [], _∷_}

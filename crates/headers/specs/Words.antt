@@ -1,4 +1,5 @@
 -- The words of a command.
+-- To be believed: that a word which is not there counts as 0.
 use Prim.Native.Nat.{ℕ}
 use mathlib.Core.List.{List}
 use lib.ListN.{getD}

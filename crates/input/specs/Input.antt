@@ -1,4 +1,5 @@
 -- What the state of an input in pieces stands for, and what its functions promise.
+-- Proved: against the line of all bytes, by `pieces-line` (proofs/Pieces.antt).
 use Prim.Native.Nat.{ℕ, _+_, _≤_}
 use mathlib.Core.Bool.{cond}
 use mathlib.Core.List.{List, [], _∷_, _++_, foldl}

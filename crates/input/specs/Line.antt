@@ -1,4 +1,5 @@
 -- The line of all bytes of an input: document 01, 'Program'.
+-- To be believed: the line that is printed.
 use Prim.Native.Nat.{ℕ, _*_, _%_}
 use mathlib.Core.Bool.{cond}
 use mathlib.Core.List.{List, [], _∷_, _++_}

@@ -1,4 +1,5 @@
 -- Numbers and words as bytes of a text in ASCII.
+-- To be believed: the bytes of a text. Decimal digits stand for their number, by `decimal-value` (crates/input_code/proofs/Texts.antt).
 use Prim.Native.Char.{code}
 use Prim.Native.Nat.{ℕ, zero, suc, _+_, _*_, _-_, _/_, _%_}
 use Prim.Native.String as string

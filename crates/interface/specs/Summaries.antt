@@ -1,4 +1,5 @@
 -- Answers as structs of numbers: document 01's number, place and lengths.
+-- To be believed: the structs' fields. `summary-fields` and `outcome-fields` (proofs/SummaryLaws.antt) list them in their order.
 use Rattle.answers.specs.Answers as answer
 use Rattle.answers.specs.declared.Answer.{Answer}
 use Rattle.progress.specs.Buffers.{source, reconstructed, forward, backward}

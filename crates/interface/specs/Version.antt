@@ -1,4 +1,5 @@
 -- The version of the library.
+-- To be believed: the version. That its number stands for it is `version-back` (proofs/VersionLaws.antt).
 use Prim.Native.Nat.{ℕ, _+_, _*_, _/_, _%_, _^_, _<_}
 use mathlib.Core.Bool.{Bool, cond}
 use mathlib.Core.Path.{_≡_}

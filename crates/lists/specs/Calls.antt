@@ -1,4 +1,5 @@
 -- States that are handed on from call to call. `Step s c t`: the call `c` on the state `s` promises this of the state `t` that it returns.
+-- To be believed: that calls which hand a state on are meant by this.
 use mathlib.Core.List.{List, [], _∷_}
 use mathlib.Core.Path.{_≡_}
 

@@ -1,4 +1,5 @@
 -- A macroblock's case, its kind and its vector words.
+-- To be believed: kinds, vectors and copies. A case and its numbers undo each other, by `case-back` (proofs/CaseLaws.antt).
 use Prim.Native.Nat.{ℕ}
 use mathlib.Core.Bool.{cond}
 use mathlib.Core.List.{List, [], _∷_}

@@ -1,4 +1,5 @@
 -- The macroblocks that a command can hold.
+-- To be believed: what a whole legal command is. `Legal` is proved against it, by `words-kept` and `macroblock-legal` (proofs/CommandLaws.antt).
 use Prim.Native.Nat.{ℕ, _<_, _^_}
 use mathlib.Core.Bool.{true}
 use mathlib.Core.List.{List, [], _∷_}

@@ -1,4 +1,6 @@
 -- The words of a MACROBLOCK command, read and written.
+-- To be believed: what the words of a command say. Writing is proved against reading, by `macroblock-back` and `words-back`
+-- (proofs/CommandLaws.antt).
 use Prim.Native.Nat.{ℕ}
 use mathlib.Core.Bool.{Bool, true, false, cond}
 use mathlib.Core.List.{List, [], _∷_}

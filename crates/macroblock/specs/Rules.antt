@@ -1,4 +1,5 @@
 -- The rules that a MACROBLOCK command keeps by itself, without its picture.
+-- To be believed: the rules, their numbers and their words.
 use Prim.Native.Nat.{ℕ}
 use mathlib.Core.Bool.{Bool, cond, not, _&&_, _||_}
 use mathlib.Core.List.{List, [], _∷_, _++_}

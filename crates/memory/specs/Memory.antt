@@ -1,6 +1,7 @@
 -- The state of a check in parts, in 128 words of memory that the caller lends. The papers leave the content of these words to the
 -- program; what holds of it is what it stands for, a state of `parts`, and every content stands for one. The words of the buffer come
 -- first, then a word for each field of the state, each at its place (Places.antt); those behind them are room for fields to come.
+-- Proved: reading gives back what was stored, by `stored-read` (proofs/MemoryLaws.antt).
 use Prim.Native.Nat.{ℕ, _-_, _%_, _^_, _<_}
 use mathlib.Core.Bool.{Bool, not}
 use mathlib.Core.List.{List, [], _∷_, _++_, map}

@@ -1,4 +1,5 @@
 -- What the state of a check in parts stands for, and what its functions promise.
+-- Proved: against the report of the whole batch, by `parts-whole` (proofs/Parts.antt).
 use Prim.Native.Nat.{ℕ, _+_}
 use mathlib.Core.Bool.{cond, _&&_}
 use mathlib.Core.List.{List, [], foldl, flatten}

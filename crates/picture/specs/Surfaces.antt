@@ -1,4 +1,5 @@
 -- The words of a SURFACE command. What is quoted is document 01.
+-- To be believed: what SURFACE says, and its rules.
 use Prim.Native.Nat.{ℕ, _+_, _%_}
 use mathlib.Core.Bool.{Bool, _&&_}
 use mathlib.Core.List.{List, [], _∷_}

@@ -1,4 +1,5 @@
 -- What a macroblock touches. Prediction is used through what its crate promises: `vectorInRange`, `blockAt` and laws about them.
+-- To be believed: which vector belongs to which reference. What is touched is proved against samples, by `next-exact` (proofs/TouchLaws.antt).
 use mathlib.Core.Bool.{Bool, true, false}
 use Rattle.prediction.specs.Vectors.{still}
 use Rattle.prediction.specs.Ranges.{vectorInRange}

@@ -1,4 +1,5 @@
 -- The rules of a MACROBLOCK command in its picture.
+-- To be believed: the rules, their numbers and their words.
 use Prim.Native.Nat.{ℕ, _+_}
 use mathlib.Core.Bool.{Bool, not, _&&_, _||_}
 use mathlib.Core.List.{List, [], _∷_, _++_}

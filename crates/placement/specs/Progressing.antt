@@ -1,4 +1,6 @@
 -- How far a batch has come after a MACROBLOCK command.
+-- To be believed: what opens and closes groups and slices. The position is proved to be k mod W, k div W, by `position-of`
+-- (proofs/PositionLaws.antt).
 use Prim.Native.Nat.{ℕ, _+_, _*_, _<_}
 use mathlib.Core.Bool.{false, cond, not}
 use mathlib.Core.List.{List}

@@ -1,4 +1,5 @@
 -- Which bytes a macroblock touches, by its samples.
+-- To be believed: which samples a macroblock touches.
 use Prim.Native.Nat.{ℕ}
 use Rattle.prediction.specs.Vectors.{still}
 use Rattle.prediction.specs.Blocks.{Occupies}

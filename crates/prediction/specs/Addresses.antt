@@ -1,4 +1,5 @@
 -- Where samples stand in a picture buffer.
+-- To be believed: document 02's formula. Every byte is that of one column and row, by `address-once` and `address-every` (proofs/AddressOnce.antt).
 use Prim.Native.Nat.{ℕ, _+_, _*_, _/_, _%_}
 use Rattle.prediction.specs.declared.Surface.{Surface}
 

@@ -1,4 +1,5 @@
 -- A macroblock's block in a picture buffer: where it lies and which bytes it touches.
+-- To be believed: `Occupies` and `InPicture`. `blockAt` is proved against them, by `block-exact` and `inside-exactly` (proofs/BlockLaws.antt).
 use Prim.Native.Nat.{ℕ, _+_, _-_, _*_}
 use mathlib.Core.Path.{_≡_}
 use mathlib.Core.Bool.{Bool, cond, _&&_}

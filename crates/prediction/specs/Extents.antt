@@ -1,4 +1,5 @@
 -- What is touched of one picture buffer.
+-- To be believed: `Exact`. The others are proved against it, by `empty-exact` and `join-exact` (proofs/ExtentLaws.antt).
 use Prim.Native.Nat.{ℕ, _+_, _<_, max}
 use mathlib.Core.Path.{_≡_}
 use Rattle.prediction.specs.declared.Extent.{Extent}

@@ -1,6 +1,7 @@
 -- Vectors judged by numbers that are made once for a line of blocks, a row or a column of macroblocks alike. They say nothing
 -- new: the laws of proofs/LineLaws.antt give back the range of the f code, the inside test and the block's extent, the last where
 -- chroma is highest.
+-- Proved: against the range, the inside test and the block, by `lines-exact`, `in-lines` and `chroma-is-highest` (proofs/LineLaws.antt).
 use Prim.Native.Nat.{ℕ, _+_, _-_, _*_, _/_, _^_, min}
 use mathlib.Core.Bool.{Bool, cond, _&&_, _||_}
 use lib.IntN.{ℤ, pos, subℕ, _+ℤ_}

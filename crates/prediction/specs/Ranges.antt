@@ -1,4 +1,5 @@
 -- The range of a vector's components under the picture's f codes.
+-- To be believed: the range of an f code.
 use Prim.Native.Nat.{ℕ, _-_, _*_, _^_}
 use mathlib.Core.Bool.{Bool, _&&_}
 use lib.IntN.{ℤ, pos, negℤ}

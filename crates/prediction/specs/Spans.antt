@@ -1,5 +1,6 @@
 -- The samples that a displaced block covers in one direction, columns or rows alike. A block has `size` samples and is the
 -- place-th of its row or column of blocks; its vector's component v is in half samples of its plane.
+-- To be believed: first sample, count, inside and the halving of chroma, in one direction.
 use Prim.Native.Nat.{ℕ, _+_, _*_, _%_}
 use mathlib.Core.Bool.{Bool, _&&_}
 use lib.IntN.{ℤ, pos, natAbs, _+ℤ_}

@@ -1,4 +1,5 @@
 -- Motion vectors in their words. Document 01: "x in the low half, y in the high half, two's complement, half samples."
+-- To be believed: the halves of a word and their sign. A vector and its word undo each other, by `vector-back` (proofs/TwosComplement.antt).
 use Prim.Native.Nat.{ℕ, _-_}
 use mathlib.Core.Bool.{cond}
 use lib.Dec.{ltb}

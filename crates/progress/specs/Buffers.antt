@@ -1,4 +1,5 @@
 -- The four picture buffers.
+-- To be believed: the buffers' numbers.
 use Prim.Native.Nat.{ℕ}
 use mathlib.Core.List.{List, [], _∷_}
 use Rattle.prediction.specs.declared.Extent.{Extent}

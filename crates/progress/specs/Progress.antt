@@ -1,4 +1,5 @@
 -- How far a batch has come.
+-- To be believed: that nothing has come at first.
 use mathlib.Core.Bool.{false}
 use Rattle.prediction.specs.Extents.{emptyExtent}
 use Rattle.answers.specs.declared.Answer.{Answer}

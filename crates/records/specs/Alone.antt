@@ -1,4 +1,5 @@
 -- One command read alone, and one record written alone.
+-- To be believed: what reading and writing alone answer and leave, and which record is legal.
 use Prim.Native.Nat.{ℕ}
 use mathlib.Core.Bool.{cond, not}
 use mathlib.Core.List.{List}

@@ -1,5 +1,6 @@
 -- The log record's layout: where each part stands, and nothing else says so. Document 01: "Logs are 24-byte records, no header,
 -- little-endian".
+-- To be believed: document 01's bytes.
 use Prim.Native.Nat.{ℕ}
 
 -- How many bytes a record has.

@@ -1,4 +1,6 @@
 -- The rules of a log record: which byte is bad, and the first of them.
+-- Proved: no rule is broken exactly by a legal record, by `legal-exactly` (proofs/RoundTrips.antt). To be believed: which byte is the first bad
+-- one.
 use Prim.Native.Nat.{ℕ, zero, suc}
 use mathlib.Core.Bool.{Bool, false, cond, _&&_, _||_}
 use mathlib.Core.List.{List, [], _∷_, _++_}

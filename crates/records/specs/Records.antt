@@ -1,4 +1,5 @@
 -- A macroblock's log record, written and read.
+-- To be believed: the record of a macroblock. Reading it is proved against it, by `record-back` (proofs/RecordLaws.antt).
 use Prim.Native.Nat.{ℕ}
 use mathlib.Core.List.{List, [], _∷_}
 use lib.ListN.{replicate}

@@ -1,4 +1,5 @@
 -- Runs of MACROBLOCK commands.
+-- Proved: against the walk, by `turn-row` (crates/batch_code/proofs/RowTurn.antt).
 use Prim.Native.Nat.{ℕ, _-_, _≤_, _<_}
 use mathlib.Core.Bool.{true}
 use mathlib.Core.List.{List, [], _∷_, flatten}

@@ -1,4 +1,5 @@
 -- What tests of the words of a MACROBLOCK command find, from which its rules follow (proofs/Keeping.antt).
+-- Proved: against the rules, by `accepted` (proofs/Keeping.antt).
 use Prim.Native.Nat.{ℕ, _≤_}
 use mathlib.Core.Bool.{Bool, true, false, cond}
 use mathlib.Core.List.{List}

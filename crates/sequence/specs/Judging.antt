@@ -1,4 +1,5 @@
 -- What a whole command comes to: a table of rules by its header, and the progress after it.
+-- To be believed: which rules a command has, and what it changes.
 use Prim.Native.Nat.{ℕ}
 use mathlib.Core.Bool.{false}
 use mathlib.Core.List.{List, [], _∷_, _++_}

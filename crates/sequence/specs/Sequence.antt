@@ -1,4 +1,5 @@
 -- Which commands may come when, and what each changes. Document 01, "Sequence".
+-- To be believed: document 01's sequence.
 use mathlib.Core.Bool.{Bool, true, not, _&&_}
 use lib.Dec.{leb, ltb}
 use Rattle.prediction.specs.declared.Grid.{Grid}

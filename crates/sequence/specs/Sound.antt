@@ -1,4 +1,5 @@
 -- What holds of every progress that commands lead to.
+-- Proved: of every progress that accepted commands lead to, by `fresh-sound` and `sound-next` (proofs/SequenceLaws.antt).
 use mathlib.Core.Bool.{true, false}
 use mathlib.Core.Path.{_≡_}
 use Prim.Native.Nat.{ℕ, _≤_, _<_}
