@@ -1,4 +1,5 @@
 -- for the crates above
+pub mod Answering
 pub mod BufferLengths
 pub mod CommandList
 pub mod Numbers

@@ -5,6 +5,8 @@ use mathlib.Core.Bool.{cond}
 use mathlib.Core.List.{List, [], _∷_, _++_}
 use lib.Dec.{eqb, leb}
 use lib.ListN.{length, drop}
+use Rattle.answers.specs.declared.Answer.{Answer}
+use Rattle.answers.specs.declared.Answer.the-variants.{Accepted, Refused}
 use Rattle.headers.specs.Headers.{headerOf, bySize}
 use Rattle.headers.specs.Words.{wordAt}
 use Rattle.headers.specs.declared.Header.{Header}
@@ -25,6 +27,11 @@ limit = 4294967295
 pub data Walk : Type 0 where
   going : ℕ → Progress → List ℕ → Walk
   stopped : ℕ → ℕ → Walk
+
+-- Document 01's number and place of a walk: 0 where it goes on.
+abbrev pub walkAnswer : Walk → Answer
+walkAnswer (going at p g) = Accepted
+walkAnswer (stopped n place) = Refused n place
 
 -- After a whole command that began at `at`; the next one begins at `next`. A rule is placed by its word of the command.
 unfoldable pub after : ℕ → ℕ → Verdict → Walk
@@ -58,3 +65,8 @@ start = going 0 fresh []
 abbrev pub walkOf : ℕ → List ℕ → Walked → Walk
 walkOf base ws (Stopped n place) = stopped n place
 walkOf base ws (Going p used) = going (base + used) p (drop used ws)
+
+-- Document 01's number and place of what a run of words came to: 0 where nothing is refused yet.
+abbrev pub walkedAnswer : Walked → Answer
+walkedAnswer (Stopped n place) = Refused n place
+walkedAnswer (Going p used) = Accepted

@@ -9,7 +9,10 @@ use Rattle.fields.specs.Word.{flag}
 use Rattle.headers.specs.Headers.{headerOf, wordsIn, bySize, begins}
 use Rattle.headers.specs.Words.{wordAt}
 use Rattle.macroblock.specs.Macroblocks.{macroblockOf}
+use Rattle.answers.specs.declared.Answer.{Answer}
+use Rattle.answers.specs.declared.Answer.the-variants.{Accepted, Refused}
 use Rattle.headers.specs.declared.Header.{Header}
+use Rattle.headers.specs.declared.Header.the-variants as headers
 use Rattle.headers.specs.declared.Opcode.{Opcode}
 use Rattle.headers.specs.declared.Opcode.the-variants.{Surface, Picture, Macroblock}
 use Rattle.picture.specs.Pictures.{pictureOf}
@@ -32,6 +35,18 @@ command at h ws = record { place = at; header = h; words = ws }
 -- What words begin with. Where there are none, a command is still to come.
 unfoldable pub nextIn : List ℕ → NextCommand
 nextIn ws = bySize (headerOf (wordAt ws 0)) (length ws) Unknown Incomplete (Whole (headerOf (wordAt ws 0)) (wordsIn (headerOf (wordAt ws 0))))
+
+-- Document 01's number and place of what a word begins, of a word at this place: "2 unknown header: header"; and of what words begin with,
+-- which end at a place: "1 words run out in a command or before END: words given".
+abbrev pub headerAnswer : ℕ → Header → Answer
+headerAnswer at (headers.Known o n) = Accepted
+headerAnswer at (headers.Carried n) = Accepted
+headerAnswer at headers.Unknown = Refused 2 at
+
+abbrev pub nextAnswer : ℕ → ℕ → NextCommand → Answer
+nextAnswer at end Unknown = Refused 2 at
+nextAnswer at end Incomplete = Refused 1 end
+nextAnswer at end (Whole h n) = Accepted
 
 -- By what words begin with: no command; more words are to come; a whole one.
 abbrev pub byNext : {A : Type 0} → A → A → (Header → ℕ → A) → NextCommand → A

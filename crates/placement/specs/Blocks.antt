@@ -1,6 +1,9 @@
 -- What a macroblock touches. Prediction is used through what its crate promises: `vectorInRange`, `blockAt` and laws about them.
 -- To be believed: which vector belongs to which reference. What is touched is proved against samples, by `next-exact` (proofs/TouchLaws.antt).
+use Prim.Native.Nat.{ℕ}
 use mathlib.Core.Bool.{Bool, true, false}
+use Rattle.answers.specs.declared.Answer.{Answer}
+use Rattle.answers.specs.declared.Answer.the-variants.{Accepted, Refused}
 use Rattle.prediction.specs.Vectors.{still}
 use Rattle.prediction.specs.Ranges.{vectorInRange}
 use Rattle.prediction.specs.Extents.{emptyExtent}
@@ -43,6 +46,11 @@ isInside (Inside e) = true
 abbrev pub extentIn : Block → Extent
 extentIn Outside = emptyExtent
 extentIn (Inside e) = e
+
+-- Document 01's number and place of a block, of the vector at this word of its command: "10 luma block outside picture: word 5 or 6".
+abbrev pub blockAnswer : ℕ → Block → Answer
+blockAnswer word Outside = Refused 10 word
+blockAnswer word (Inside e) = Accepted
 
 abbrev pub predictedIn : Bool → Block → Predicted
 predictedIn ranged b = record { «in_range» = ranged; inside = isInside b; extent = extentIn b }

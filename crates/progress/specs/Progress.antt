@@ -35,6 +35,11 @@ fresh =
       extents = record { source = emptyExtent; reconstructed = emptyExtent; forward = emptyExtent; backward = emptyExtent };
     }
 
+-- Document 01's number and place of a verdict: 0 where there is a progress after it. The place is a word, of the command or of the batch.
+abbrev pub verdictAnswer : Verdict → Answer
+verdictAnswer (Next p) = Accepted
+verdictAnswer (Stop n place) = Refused n place
+
 -- A command that was judged, and the progress after it if it keeps its rules.
 abbrev pub concluded : Answer → Progress → Verdict
 concluded Accepted p = Next p

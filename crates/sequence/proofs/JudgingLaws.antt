@@ -14,7 +14,7 @@ use Rattle.headers.specs.declared.Opcode.the-variants.{Noop, End, Surface, Pict
 use Rattle.picture.specs.Surfaces.{surfaceRules}
 use Rattle.picture.specs.Pictures.{pictureRules}
 use Rattle.picture.proofs.PictureLaws.{surface-within, picture-within}
-use Rattle.progress.specs.Progress.{concluded}
+use Rattle.progress.specs.Progress.{verdictAnswer, concluded}
 use Rattle.progress.specs.declared.Progress.{Progress}
 use Rattle.progress.specs.declared.Verdict.the-variants.{Next, Stop}
 use Rattle.placement.proofs.MacroblockLaws.{macroblock-within}
@@ -50,3 +50,17 @@ goes-on h p ws q e = by (judged (rulesOf h p ws)) refl e
     by : (a : Answer) → judged (rulesOf h p ws) ≡ a → concluded a (nextOf h p ws) ≡ Next q → (judged (rulesOf h p ws) ≡ Accepted) × (q ≡ nextOf h p ws)
     by Accepted s e = (s, cc)
     by (Refused m r) s e = let z : _≡_ {A = ℕ} 0 1 = cc in absurd (omega arith)
+
+-- The number and the place of a command that was judged are those of its table.
+pub judge-answer : (h : Header) (p : Progress) (ws : List ℕ) → verdictAnswer (judge h p ws) ≡ judged (rulesOf h p ws)
+unfolding judge
+judge-answer h p ws = by (judged (rulesOf h p ws))
+  where
+    by : (a : Answer) → verdictAnswer (concluded a (nextOf h p ws)) ≡ a
+    by Accepted = refl
+    by (Refused n w) = refl
+
+-- A word that begins no command is refused as such.
+pub unknown-answer : (p : Progress) (ws : List ℕ) → judged (rulesOf Unknown p ws) ≡ Refused 2 0
+unfolding rulesOf
+unknown-answer p ws = refl
