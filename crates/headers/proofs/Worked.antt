@@ -1,11 +1,23 @@
 -- Document 01's own numbers, computed from the definitions.
 use mathlib.Core.Path.{_≡_, refl}
-use mathlib.Core.List.{List, [], _∷_, map}
+use mathlib.Core.List.{List, [], _∷_, _++_, map}
 use Prim.Native.Nat.{ℕ, _+_}
-use lib.ListN.{drop}
+use lib.ListN.{length, drop}
 use Rattle.fields.specs.Word.{bits}
-use Rattle.headers.specs.Headers.{Row, table, wordsIn}
+use Rattle.headers.specs.Examples.{twelve, oneBitOff, otherLengths, otherKinds}
+use Rattle.headers.specs.Headers.{Row, table, lookUp, headerOf, wordsIn}
 use Rattle.headers.specs.Words.{wordAt}
+use Rattle.headers.specs.declared.Header.the-variants.{Unknown}
+
+-- what each of the twelve headers begins; the table has no other
+begun : (map (λ (r : Row). headerOf (r .header)) twelve ≡ map (λ (r : Row). r .begins) twelve) × (length table ≡ length twelve)
+unfolding twelve headerOf lookUp table
+begun = (refl, refl)
+
+-- "a word begins one of twelve commands or none"
+none : map headerOf (oneBitOff twelve ++ otherLengths ++ otherKinds) ≡ map (λ (w : ℕ). Unknown) (oneBitOff twelve ++ otherLengths ++ otherKinds)
+unfolding twelve otherLengths otherKinds headerOf lookUp table
+none = refl
 
 abbrev two : ℕ → ℕ → List ℕ
 two a b = a ∷ b ∷ []
