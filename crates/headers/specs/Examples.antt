@@ -8,6 +8,21 @@ use Rattle.headers.specs.Headers.{Row, row}
 use Rattle.headers.specs.declared.Header.the-variants.{Known, Carried}
 use Rattle.headers.specs.declared.Opcode.the-variants.{Noop, End, Surface, Picture, SliceGroup, Macroblock}
 
+-- Words, and what they say.
+pub record Reading (A : Type 0) : Type 0 where
+  pub words : List ℕ
+  pub says : A
+
+abbrev pub reading : {A : Type 0} → List ℕ → A → Reading A
+reading ws a = record { words = ws; says = a }
+
+-- What a reader finds in the words of readings, and what is due.
+abbrev pub readBy : {A : Type 0} → (List ℕ → A) → List (Reading A) → List A
+readBy reader readings = map (λ x. reader (x .words)) readings
+
+abbrev pub said : {A : Type 0} → List (Reading A) → List A
+said readings = map (λ x. x .says) readings
+
 -- A word with one of its bits turned over.
 abbrev pub turned : ℕ → ℕ → ℕ
 turned w b = cond (eqb (w / 2 ^ b % 2) 0) (w + 2 ^ b) (w - 2 ^ b)
