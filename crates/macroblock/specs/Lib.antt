@@ -1,4 +1,5 @@
 pub mod Cases
+pub mod Examples
 pub mod Legal
 pub mod Macroblocks
 pub mod Rules
