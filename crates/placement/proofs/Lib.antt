@@ -3,3 +3,5 @@ pub mod BlockAnswers
 pub mod MacroblockLaws
 pub mod PositionLaws
 pub mod TouchLaws
+-- for this crate alone
+mod Worked

@@ -1,4 +1,5 @@
 pub mod Blocks
+pub mod Examples
 pub mod Placing
 pub mod Progressing
 pub mod Touching

@@ -1,0 +1,36 @@
+-- Worked examples of the rules of a MACROBLOCK in its picture and of what it changes, computed from the definitions.
+use mathlib.Core.Path.{_≡_, refl}
+use mathlib.Core.Bool.{true}
+use mathlib.Core.List.{List, [], map}
+use Prim.Native.Nat.{ℕ}
+use Rattle.prediction.specs.Vectors.{vectorOf, wordOf}
+use Rattle.prediction.specs.Ranges.{vectorInRange}
+use Rattle.prediction.specs.Addresses.{address}
+use Rattle.prediction.specs.Extents.{emptyExtent, joined}
+use Rattle.prediction.specs.Blocks.{blockAt}
+use Rattle.answers.specs.Answers.{Rule}
+use Rattle.answers.specs.Examples.{found, due, allShown}
+use Rattle.macroblock.specs.Cases.{motionOf, caseOf, vectorWords}
+use Rattle.macroblock.specs.Macroblocks.{macroblockOf}
+use Rattle.macroblock.specs.Rules.{keptBy, fieldRules, vectorRules, commandRules}
+use Rattle.progress.specs.Progress.{fresh}
+use Rattle.progress.specs.declared.Progress.{Progress}
+use Rattle.placement.specs.Blocks.{forwardOf, backwardOf, predicted, blocksOf}
+use Rattle.placement.specs.Examples.{Change, examples, changes}
+use Rattle.placement.specs.Placing.{placedRules, macroblockRules}
+use Rattle.placement.specs.Progressing.{positionAfter, stageAfter, extentsAfter, progressAfter, macroblockNext}
+
+abbrev table : Progress × List ℕ → List Rule
+table x = macroblockRules (x .0) (x .1)
+
+-- Each example breaks the rules that document 01 says and no other, and every rule is shown.
+every-example : (found table examples ≡ due examples) × (allShown examples (macroblockRules fresh []) ≡ true)
+unfolding examples macroblockRules placedRules blocksOf predicted forwardOf backwardOf fresh
+    commandRules fieldRules vectorRules keptBy macroblockOf caseOf motionOf vectorWords
+    vectorOf wordOf vectorInRange blockAt joined emptyExtent address
+every-example = (refl, refl)
+
+every-change : map (λ (c : Change). macroblockNext (c .before) (c .words)) changes ≡ map (λ (c : Change). c .after) changes
+unfolding changes macroblockNext progressAfter extentsAfter stageAfter positionAfter blocksOf predicted forwardOf backwardOf
+    macroblockOf caseOf motionOf vectorOf wordOf vectorInRange blockAt joined emptyExtent address
+every-change = refl
