@@ -1,3 +1,5 @@
 -- for the crates above
 pub mod JudgingLaws
 pub mod SequenceLaws
+-- for this crate alone
+mod Worked

@@ -1,3 +1,4 @@
+pub mod Examples
 pub mod Judging
 pub mod Sequence
 pub mod Sound
