@@ -159,7 +159,8 @@ skipExamplesP =
     ∷ []
 
 -- "in B the macroblock before it is inter with the same type and the same words 5 to 8": each type again; another type with the
--- same words; words 5, 6, 7 and 8 other than before; intra before it; none before it, where a slice should begin (7).
+-- same words; words 5, 6, 7 and 8 other than before; intra before it, also before an intra one, which is not skipped (5) and has a
+-- pattern (5); none before it, where a slice should begin (7).
 abbrev skipExamplesB : List Placed
 skipExamplesB =
     keeping (behind pictureB (was 1 7 7 7 7), inter 0x104 (only 7))
@@ -173,6 +174,7 @@ skipExamplesB =
     ∷ breaking 11 1 (behind pictureB (was 1 7 7 6 7), inter 0x104 (only 7))
     ∷ breaking 11 1 (behind pictureB (was 1 7 7 7 6), inter 0x104 (only 7))
     ∷ breaking 11 1 (inside pictureB, inter 0x104 (only 0))
+    ∷ record { given = (inside pictureB, inter 0x3A04 (only 0)); breaks = (11, 1) ∷ (5, 1) ∷ (5, 3) ∷ [] }
     ∷ record { given = (at pictureB groupBegins 0 0, command 0x104 0 0 0x01000001 (only 0)); breaks = (11, 1) ∷ (7, 4) ∷ [] }
     ∷ []
 
