@@ -7,6 +7,7 @@ pub mod ReadAlone
 pub mod Runs
 pub mod WalkLaws
 -- for this crate alone
+mod Batches
 mod Cases
 mod Exactness
 mod Measuring

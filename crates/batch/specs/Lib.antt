@@ -1,3 +1,4 @@
+pub mod Batches
 pub mod Demand
 pub mod Reports
 pub mod Touched
