@@ -3,7 +3,16 @@ use crate::summaries;
 use batch::Lengths;
 use interface::Summary;
 ghost use mathlib.Core.Path.{_≡_};
+ghost use Rattle.memory.specs.Places.{memoryWords};
 ghost use Rattle.interface.specs.Handing.{MemoryBegun, MemoryHanded, summaryIn};
+
+// How many words the lent memory has, for a caller that compares it with the size that it was compiled for.
+#[no_mangle]
+pub extern "C" fn hromulice_state_words() -> u64
+    ensures { λ r. ⌜ r ≡ memoryWords ⌝ }
+{
+    memory::WORDS as u64
+}
 
 // A check with four buffers of these lengths, before its first word.
 #[no_mangle]

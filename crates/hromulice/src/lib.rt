@@ -1,5 +1,5 @@
 // The checker as a library for C. Each function answers what a function of the crates below answers, as numbers in structs; one
-// answers the library's version.
+// answers the library's version, and one the size of a state.
 mod handing;
 mod single;
 mod summaries;
@@ -9,6 +9,7 @@ mod whole;
 pub use handing::hromulice_begin;
 pub use handing::hromulice_hand_over;
 pub use handing::hromulice_report_of;
+pub use handing::hromulice_state_words;
 pub use single::hromulice_read_command;
 pub use single::hromulice_write_command;
 pub use version::hromulice_version;

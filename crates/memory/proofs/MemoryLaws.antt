@@ -1,15 +1,15 @@
 -- A state that is stored in memory and read again.
-use mathlib.Core.List.{List, _∷_, _++_, map}
+use mathlib.Core.List.{List, [], _∷_, _++_, map}
 use mathlib.Core.Path.{_≡_, refl, sym, ap, ap₂, _∙_}
 use Prim.Native.Nat.{ℕ, zero, suc, _+_, _%_, _^_, _<_}
 use native.Mathlib.Nat.{add-zero, zero-add, mod-eq-of-lt}
 use native.Mathlib.Omega.{arith}
-use lib.ListN.{length, getD, length-map, List·getD-map}
+use lib.ListN.{length, getD, set, length-append, length-map, length-set, List·getD-map}
 use Rattle.fields.proofs.Elements.{elements-all}
 use Rattle.fields.proofs.Fields.{flag-nonzero}
 use Rattle.fields.specs.Bytes.{elements}
 use Rattle.parts.specs.declared.State.{State}
-use Rattle.memory.specs.Places.{bufferWords}
+use Rattle.memory.specs.Places.{memoryWords, bufferWords}
 use Rattle.memory.specs.Memory.{storedBuffer, stateIn, fieldsOf, placed, room, stateWords, Fitting}
 
 length-elements : (xs : List ℕ) (i k : ℕ) → length (elements xs i k) ≡ k
@@ -77,3 +77,12 @@ stored-read s f =
       mod-eq-of-lt (f .number),
       buffer-back s f,
     )
+
+placed-length : (fields : List (ℕ × ℕ)) (m : List ℕ) → length (placed fields m) ≡ length m
+placed-length [] m = refl
+placed-length ((place, word) ∷ rest) m = placed-length rest (set m place word) ∙ length-set m place word
+
+-- The words of a state are as many as the memory has that is lent.
+pub stored-length : (s : State) → Fitting s → length (stateWords s) ≡ memoryWords
+unfolding stateWords
+stored-length s f = placed-length (fieldsOf s) (s .buffer ++ room) ∙ length-append (s .buffer) room ∙ ap (λ (n : ℕ). n + length room) (f .held-words)
