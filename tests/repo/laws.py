@@ -1,0 +1,63 @@
+"""Who may cite and who may unfold what."""
+import re
+
+from . import antt
+from .text import read_code
+
+# Worked examples: files of closed statements, which compute. Only such a statement may unfold what `prediction` keeps to itself.
+WORKED = {
+    f'crates/{path}.antt' for path in (
+        'answers/proofs/Worked', 'fields/proofs/Worked', 'headers/proofs/Worked', 'lists/proofs/Worked', 'prediction/proofs/Worked', 'macroblock/proofs/Worked',
+        'picture/proofs/Worked', 'progress/proofs/Worked', 'placement/proofs/Worked', 'records/proofs/Worked', 'sequence/proofs/Worked', 'batch/proofs/Cases',
+        'batch/proofs/Batches', 'decoding/proofs/Cases', 'input/proofs/Worked')
+}
+
+
+def check_borders(root, faults):
+    """What stands in `proofs/Lib.antt` behind '-- for its functions alone' is cited by the crate of these functions only."""
+    count = 0
+    private = {}
+    for lib in sorted(root.glob('crates/*/proofs/Lib.antt')):
+        if section := re.search(r'^-- for its functions alone\n((?:pub mod \w+\n)+)', lib.read_text(), re.M):
+            private[lib.parent.parent.name] = set(re.findall(r'pub mod (\w+)', section[1]))
+    count = sum(map(len, private.values()))
+    for file in sorted(file for suffix in ('antt', 'rt') for file in root.glob(f'crates/*/*/**/*.{suffix}')):
+        crate = file.relative_to(root / 'crates').parts[0]
+        code = read_code(file)
+        where = file.relative_to(root)
+        for name, law in sorted(set(re.findall(r'Rattle·(\w+)\.proofs\.(\w+)', code))):
+            if crate != f'{name}_code' and law in private.get(name, ()):
+                faults.append(f'{where}: cites {law} of {name}, which is for {name}_code alone')
+        for line in re.findall(r'^.*\buse (?:package\.)?Rattle·\w+(?:\.(?:specs|proofs))?(?:;|\s.*|\.\{.*)?$', code, re.M):
+            faults.append(f'{where}: brings in a whole crate, so that it cannot be told what it cites: {line.strip()}')
+        if file.suffix == '.antt' and (passed := re.search(r'^.*\bpub use .*', code, re.M)):
+            faults.append(f'{where}: passes on what another file declares: {passed[0].strip()}')
+    return count
+
+
+def worked(declaration):
+    """A closed statement that is proved by computing it."""
+    return antt.closed(declaration) and re.search(rf'^{re.escape(declaration.name)} = refl\s*\Z', declaration.body, re.M) is not None
+
+
+def check_unfolding(root, faults):
+    """Worked numbers compute; every other law above `prediction` cites what it promises."""
+    count = 0
+    for file in sorted(file for folder in ('specs', 'proofs') for file in root.glob(f'crates/*/{folder}/**/*.antt')):
+        path = str(file.relative_to(root))
+        above = path.split('/')[1] not in ('prediction', 'prediction_code')
+        count += above and '/proofs/' in path
+        code = read_code(file)
+        known = antt.uses(code)
+        declared = antt.declarations(code)
+        for d in declared if path in WORKED else ():
+            if d.kind == 'law' and re.search(r'≡|≤|<|⊎|×', d.statement) and not antt.closed(d):
+                faults.append(f'{path}: {d.name} is a law over variables, in a file of worked examples')
+        for d in declared if above else ():
+            names = {name for name in d.unfolded() if antt.whole(name, known).startswith('Rattle.prediction.specs.')}
+            if not (path in WORKED and worked(d)):
+                faults.extend(f'{path}: {d.name} unfolds {name} of prediction' for name in sorted(names))
+    for file in sorted(root.glob('crates/*/src/**/*.rt')):
+        if re.search(r'\bunfold(?:ing)?\b', read_code(file)):
+            faults.append(f'{file.relative_to(root)}: a contract unfolds a definition')
+    return count
