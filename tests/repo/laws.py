@@ -37,7 +37,7 @@ def check_borders(root, faults):
 
 def worked(declaration):
     """A closed statement that is proved by computing it."""
-    return antt.closed(declaration) and re.search(rf'^{re.escape(declaration.name)} = refl\s*\Z', declaration.body, re.M) is not None
+    return antt.closed(declaration) and re.search(rf'^{re.escape(declaration.name)} = (?:refl|\(refl(?:, refl)+\))\s*\Z', declaration.body, re.M) is not None
 
 
 def check_unfolding(root, faults):

@@ -7,35 +7,32 @@ use borrow.Author.Tests.{lt-ltb, le-ltb}
 use lib.ListN.{length, take, drop}
 use lib.Seq.{take-all}
 use Rattle.answers.specs.Answers.{next}
-use Rattle.answers.specs.Lending.{lentAfter, roomFor}
+use Rattle.answers.specs.Lending.{lentAfter, roomFor, thenRoom}
 use Rattle.answers.specs.declared.Answer.{Answer}
 use Rattle.answers.specs.declared.Answer.the-variants.{Accepted, Refused}
 
 module _ (fault : Answer) (needed : ℕ) (new room : List ℕ) where
-  abbrev answer : Answer
-  answer = next fault (roomFor needed room)
-
   -- a rule is broken
-  pub refuses : (n p : ℕ) → fault ≡ Refused n p → (Refused n p ≡ answer) × (room ≡ lentAfter answer new room)
-  refuses n p e = let a : answer ≡ Refused n p = ap (λ (f : Answer). next f (roomFor needed room)) e in (sym a, sym (ap (λ (x : Answer). lentAfter x new room) a))
+  pub refuses : (n p : ℕ) → fault ≡ Refused n p → (Refused n p ≡ thenRoom fault needed room) × (room ≡ lentAfter (thenRoom fault needed room) new room)
+  refuses n p e = let a : thenRoom fault needed room ≡ Refused n p = ap (λ (f : Answer). next f (roomFor needed room)) e in (sym a, sym (ap (λ (x : Answer). lentAfter x new room) a))
 
   -- the room is too small
-  pub lacks-room : fault ≡ Accepted → length room < needed → (Refused 14 needed ≡ answer) × (room ≡ lentAfter answer new room)
+  pub lacks-room : fault ≡ Accepted → length room < needed → (Refused 14 needed ≡ thenRoom fault needed room) × (room ≡ lentAfter (thenRoom fault needed room) new room)
   lacks-room e h =
-      let a : answer ≡ Refused 14 needed = ap (λ (f : Answer). next f (roomFor needed room)) e ∙ simp (lt-ltb (length room) needed h) in
+      let a : thenRoom fault needed room ≡ Refused 14 needed = ap (λ (f : Answer). next f (roomFor needed room)) e ∙ simp (lt-ltb (length room) needed h) in
       (sym a, sym (ap (λ (x : Answer). lentAfter x new room) a))
 
   -- it is done
-  pub writes : (out : List ℕ) → fault ≡ Accepted → needed ≤ length room → out ≡ new ++ drop (length new) room → (Accepted ≡ answer) × (out ≡ lentAfter answer new room)
+  pub writes : (out : List ℕ) → fault ≡ Accepted → needed ≤ length room → out ≡ new ++ drop (length new) room → (Accepted ≡ thenRoom fault needed room) × (out ≡ lentAfter (thenRoom fault needed room) new room)
   writes out e h o =
-      let a : answer ≡ Accepted = ap (λ (f : Answer). next f (roomFor needed room)) e ∙ simp (le-ltb (length room) needed h) in
+      let a : thenRoom fault needed room ≡ Accepted = ap (λ (f : Answer). next f (roomFor needed room)) e ∙ simp (le-ltb (length room) needed h) in
       (sym a, o ∙ sym (ap (λ (x : Answer). lentAfter x new room) a))
 
   -- no rule is broken, and the rest is done by another
   pub hands-on : (out : List ℕ) (r : Answer) → fault ≡ Accepted → r ≡ roomFor needed room → out ≡ lentAfter (roomFor needed room) new room
-      → (r ≡ answer) × (out ≡ lentAfter answer new room)
+      → (r ≡ thenRoom fault needed room) × (out ≡ lentAfter (thenRoom fault needed room) new room)
   hands-on out r e s o =
-      let a : roomFor needed room ≡ answer = ap (λ (f : Answer). next f (roomFor needed room)) (sym e) in
+      let a : roomFor needed room ≡ thenRoom fault needed room = ap (λ (f : Answer). next f (roomFor needed room)) (sym e) in
       (s ∙ a, o ∙ ap (λ (x : Answer). lentAfter x new room) a)
 
 -- all of some bytes or words, in front of what stood beyond

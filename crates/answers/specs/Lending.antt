@@ -5,6 +5,7 @@ use mathlib.Core.Bool.{cond}
 use mathlib.Core.List.{List, _++_}
 use lib.Dec.{ltb}
 use lib.ListN.{length, drop}
+use Rattle.answers.specs.Answers.{next}
 use Rattle.answers.specs.declared.Answer.{Answer}
 use Rattle.answers.specs.declared.Answer.the-variants.{Accepted, Refused}
 
@@ -17,3 +18,7 @@ lentAfter (Refused n p) new room = room
 -- Room for so many bytes or words, or "14 lent room too small: bytes or words needed".
 abbrev pub roomFor : ℕ → List ℕ → Answer
 roomFor needed room = cond (ltb (length room) needed) (Refused 14 needed) Accepted
+
+-- "14 follows all these": a fault, or whether there is room.
+abbrev pub thenRoom : Answer → ℕ → List ℕ → Answer
+thenRoom fault needed room = next fault (roomFor needed room)

@@ -6,8 +6,7 @@ use mathlib.Core.List.{List}
 use mathlib.Core.Path.{_≡_}
 use lib.Dec.{eqb, ltb}
 use lib.ListN.{length, replicate}
-use Rattle.answers.specs.Answers.{next}
-use Rattle.answers.specs.Lending.{lentAfter, roomFor}
+use Rattle.answers.specs.Lending.{lentAfter, thenRoom}
 use Rattle.answers.specs.Answers.{judged}
 use Rattle.headers.specs.Headers.{macroblockHeader}
 use Rattle.macroblock.specs.Legal.{Words}
@@ -29,7 +28,7 @@ readFault words =
     (cond (ltb (length words) 9) (Refused 1 (length words)) (judged (commandRules words))))
 
 unfoldable pub readAnswer : List ℕ → List ℕ → Answer
-readAnswer words room = next (readFault words) (roomFor recordLength room)
+readAnswer words room = thenRoom (readFault words) recordLength room
 
 unfoldable pub readRoom : List ℕ → List ℕ → List ℕ
 readRoom words room = lentAfter (readAnswer words room) (recordOf (macroblockOf words)) room
@@ -39,7 +38,7 @@ unfoldable pub recordFault : List ℕ → Answer
 recordFault bytes = cond (eqb (length bytes) recordLength) (judged (recordRules bytes)) (Refused 15 0)
 
 unfoldable pub writeAnswer : List ℕ → List ℕ → Answer
-writeAnswer bytes room = next (recordFault bytes) (roomFor 9 room)
+writeAnswer bytes room = thenRoom (recordFault bytes) 9 room
 
 unfoldable pub writeRoom : List ℕ → List ℕ → List ℕ
 writeRoom bytes room = lentAfter (writeAnswer bytes room) (wordsOf (macroblockIn bytes)) room

@@ -17,6 +17,7 @@ use Rattle.picture.proofs.PictureLaws.{surface-within, picture-within}
 use Rattle.progress.specs.Progress.{verdictAnswer, concluded}
 use Rattle.progress.specs.declared.Progress.{Progress}
 use Rattle.progress.specs.declared.Verdict.the-variants.{Next, Stop}
+use Rattle.placement.specs.Placing.{macroblockRules}
 use Rattle.placement.proofs.MacroblockLaws.{macroblock-within}
 use Rattle.sequence.specs.Sequence.{surfacePermitted, picturePermitted}
 use Rattle.sequence.specs.Judging.{rulesOf, nextOf, judge}
@@ -64,3 +65,8 @@ judge-answer h p ws = by (judged (rulesOf h p ws))
 pub unknown-answer : (p : Progress) (ws : List ℕ) → judged (rulesOf Unknown p ws) ≡ Refused 2 0
 unfolding rulesOf
 unknown-answer p ws = refl
+
+-- A MACROBLOCK is judged by the rules of its picture and those that it keeps by itself, and no others.
+pub macroblock-table : (n : ℕ) (p : Progress) (ws : List ℕ) → rulesOf (Known Macroblock n) p ws ≡ macroblockRules p ws
+unfolding rulesOf
+macroblock-table n p ws = refl

@@ -63,12 +63,12 @@ every-unknown : Shown Unknown unknowns
 unfolding rulesOf unknowns fresh
 every-unknown = (refl, refl)
 
--- A MACROBLOCK is judged by its picture's rules, whose examples are `placement`'s.
-every-macroblock : Worked (Known Macroblock 9) macroblocks × ((p : Progress) (ws : List ℕ) → rulesOf (Known Macroblock 9) p ws ≡ macroblockRules p ws)
+-- A MACROBLOCK is judged by its picture's rules (`macroblock-table` of JudgingLaws.antt), whose examples are `placement`'s.
+every-macroblock : Worked (Known Macroblock 9) macroblocks
 unfolding rulesOf macroblocks macroblockRules placedRules blocksOf predicted forwardOf backwardOf fresh
     commandRules fieldRules vectorRules keptBy macroblockOf caseOf motionOf vectorWords
     vectorOf wordOf vectorInRange blockAt joined emptyExtent address
-every-macroblock = (refl, λ p ws. refl)
+every-macroblock = refl
 
 every-change : map (λ (c : Header × Change). nextOf (c .0) (c .1 .before) (c .1 .words)) changes ≡ map (λ (c : Header × Change). c .1 .after) changes
 unfolding changes nextOf surfaceNext pictureNext groupNext endNext surfaceOf pictureOf fresh
