@@ -1,4 +1,5 @@
 pub mod Alone
+pub mod Examples
 pub mod Layout
 pub mod RecordRules
 pub mod Records
