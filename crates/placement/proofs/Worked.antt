@@ -16,7 +16,7 @@ use Rattle.macroblock.specs.Rules.{keptBy, fieldRules, vectorRules, commandRule
 use Rattle.progress.specs.Progress.{fresh}
 use Rattle.progress.specs.declared.Progress.{Progress}
 use Rattle.placement.specs.Blocks.{forwardOf, backwardOf, predicted, blocksOf}
-use Rattle.placement.specs.Examples.{Change, examples, changes}
+use Rattle.placement.specs.Examples.{Change, placedExamples, placedChanges}
 use Rattle.placement.specs.Placing.{placedRules, macroblockRules}
 use Rattle.placement.specs.Progressing.{positionAfter, stageAfter, extentsAfter, progressAfter, macroblockNext}
 
@@ -24,13 +24,13 @@ abbrev table : Progress × List ℕ → List Rule
 table x = macroblockRules (x .0) (x .1)
 
 -- Each example breaks the rules that document 01 says and no other, and every rule is shown.
-every-example : (found table examples ≡ due examples) × (allShown examples (macroblockRules fresh []) ≡ true)
-unfolding examples macroblockRules placedRules blocksOf predicted forwardOf backwardOf fresh
+every-example : (found table placedExamples ≡ due placedExamples) × (allShown placedExamples (macroblockRules fresh []) ≡ true)
+unfolding placedExamples macroblockRules placedRules blocksOf predicted forwardOf backwardOf fresh
     commandRules fieldRules vectorRules keptBy macroblockOf caseOf motionOf vectorWords
     vectorOf wordOf vectorInRange blockAt joined emptyExtent address
 every-example = (refl, refl)
 
-every-change : map (λ (c : Change). macroblockNext (c .before) (c .words)) changes ≡ map (λ (c : Change). c .after) changes
-unfolding changes macroblockNext progressAfter extentsAfter stageAfter positionAfter blocksOf predicted forwardOf backwardOf
+every-change : map (λ (c : Change). macroblockNext (c .before) (c .words)) placedChanges ≡ map (λ (c : Change). c .after) placedChanges
+unfolding placedChanges macroblockNext progressAfter extentsAfter stageAfter positionAfter blocksOf predicted forwardOf backwardOf
     macroblockOf caseOf motionOf vectorOf wordOf vectorInRange blockAt joined emptyExtent address
 every-change = refl

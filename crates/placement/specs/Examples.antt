@@ -16,8 +16,8 @@ use Rattle.progress.specs.declared.Stage.{Stage}
 
 -- A picture of 90 by 150 samples, so of 6 by 10 macroblocks, with pitch 256 and its chroma from row 160 on. The four f codes
 -- of B differ: forward x from −16 to 15, forward y −32 to 31, backward x −64 to 63, backward y −128 to 127.
-abbrev pub frame : Frame
-frame = record { width = 90; height = 150; surface = record { pitch = 256; «chroma_row» = 160 } }
+abbrev pub exampleFrame : Frame
+exampleFrame = record { width = 90; height = 150; surface = record { pitch = 256; «chroma_row» = 160 } }
 
 abbrev pub pictureWith : ℕ → Codes → Codes → Picture
 pictureWith coding forward backward = record { coding = coding; forward = forward; backward = backward; grid = record { columns = 6; rows = 10 } }
@@ -33,8 +33,8 @@ pictureB = pictureWith 3 (codes 1 2) (codes 3 4)
 
 -- How far a batch has come behind its first SLICEGROUP: whether a group is open, whether SLICEGROUP came last, whether a slice is
 -- open.
-abbrev pub grouped : Bool → Bool → Bool → Stage
-grouped group start slice =
+abbrev pub groupStage : Bool → Bool → Bool → Stage
+groupStage group start slice =
     record {
       surfaced = true;
       pictured = true;
@@ -46,18 +46,18 @@ grouped group start slice =
     }
 
 abbrev pub groupBegins : Stage
-groupBegins = grouped true true false
+groupBegins = groupStage true true false
 
 abbrev pub sliceOpen : Stage
-sliceOpen = grouped true false true
+sliceOpen = groupStage true false true
 
 abbrev pub sliceClosed : Stage
-sliceClosed = grouped true false false
+sliceClosed = groupStage true false false
 
 abbrev pub groupClosed : Stage
-groupClosed = grouped false false false
+groupClosed = groupStage false false false
 
--- The macroblock before, and none (or intra, which has no words that differ from none's).
+-- The macroblock before. None and an intra one are both of kind 0, with zero words.
 abbrev pub was : ℕ → ℕ → ℕ → ℕ → ℕ → Previous
 was kind five six seven eight = record { kind = kind; five = five; six = six; seven = seven; eight = eight }
 
@@ -71,215 +71,212 @@ upTo n = record { end = n }
 abbrev pub touched : ℕ → ℕ → ℕ → ℕ → Extents
 touched a b c d = record { source = upTo a; reconstructed = upTo b; forward = upTo c; backward = upTo d }
 
--- The next macroblock's place is this column and row.
-abbrev pub progress : Picture → Stage → ℕ → ℕ → Previous → Extents → Progress
-progress picture stage column row previous extents =
+-- The next macroblock's place is this column and row; and nothing is touched yet.
+abbrev pub progressAt : Picture → Stage → ℕ → ℕ → Previous → Extents → Progress
+progressAt picture stage column row previous extents =
     record {
       stage = stage;
-      frame = frame;
+      frame = exampleFrame;
       picture = picture;
       position = record { column = column; row = row };
       previous = previous;
       extents = extents;
     }
 
-abbrev at : Picture → Stage → ℕ → ℕ → Progress
-at picture stage column row = progress picture stage column row wasNone (touched 0 0 0 0)
+abbrev pub untouchedAt : Picture → Stage → ℕ → ℕ → Progress
+untouchedAt picture stage column row = progressAt picture stage column row wasNone (touched 0 0 0 0)
 
--- In an open slice, at column 3 and row 5.
-abbrev inside : Picture → Progress
-inside picture = at picture sliceOpen 3 5
+-- In an open slice, at column 3 and row 5, and behind this macroblock.
+abbrev midSlice : Picture → Progress
+midSlice picture = untouchedAt picture sliceOpen 3 5
 
-abbrev behind : Picture → Previous → Progress
-behind picture previous = progress picture sliceOpen 3 5 previous (touched 0 0 0 0)
+abbrev following : Picture → Previous → Progress
+following picture previous = progressAt picture sliceOpen 3 5 previous (touched 0 0 0 0)
 
 -- A command by its words 1 to 4 and its vectors, and the vectors of type 1 or 2 and of type 3.
-abbrev pub command : ℕ → ℕ → ℕ → ℕ → List ℕ → List ℕ
-command one two three four vectors = 0x73490007 ∷ one ∷ two ∷ three ∷ four ∷ vectors
+abbrev pub macroblockWords : ℕ → ℕ → ℕ → ℕ → List ℕ → List ℕ
+macroblockWords one two three four vectors = 0x73490007 ∷ one ∷ two ∷ three ∷ four ∷ vectors
 
-abbrev pub only : ℕ → List ℕ
-only v = v ∷ v ∷ v ∷ v ∷ []
+abbrev pub alike : ℕ → List ℕ
+alike v = v ∷ v ∷ v ∷ v ∷ []
 
-abbrev pub both : ℕ → ℕ → List ℕ
-both f b = f ∷ b ∷ f ∷ b ∷ []
+abbrev pub paired : ℕ → ℕ → List ℕ
+paired f b = f ∷ b ∷ f ∷ b ∷ []
 
--- At column 3 and row 5, with this word 4: intra, and inter by its word 1 and its vectors.
-abbrev intraWith : ℕ → List ℕ
-intraWith four = command 0x3A00 0x00050003 0xFC0 four (only 0)
+-- At column 3 and row 5: intra with this word 4, intra, and inter with this word 1, both with quantiser 1 and no flag.
+abbrev pub intraWith : ℕ → List ℕ
+intraWith four = macroblockWords 0x3A00 0x00050003 0xFC0 four (alike 0)
 
-abbrev interWith : ℕ → ℕ → List ℕ → List ℕ
-interWith one four vectors = command one 0x00050003 0 four vectors
-
--- .. with quantiser 1 and no flag
 abbrev intra : List ℕ
 intra = intraWith 1
 
 abbrev inter : ℕ → List ℕ → List ℕ
-inter one vectors = interWith one 1 vectors
+inter one vectors = macroblockWords one 0x00050003 0 1 vectors
 
-abbrev pub Placed : Type 0
-Placed = Example (Progress × List ℕ)
+-- How far a batch has come, and the words of the command that comes next.
+abbrev pub Judged : Type 0
+Judged = Example (Progress × List ℕ)
 
 -- "I allows intra only, P intra and 1, B all."
-abbrev kindExamples : List Placed
+abbrev kindExamples : List Judged
 kindExamples =
-    keeping (inside pictureI, intra)
-    ∷ breaking 5 1 (inside pictureI, inter 0x100 (only 0))
-    ∷ breaking 5 1 (inside pictureI, inter 0x200 (only 0))
-    ∷ breaking 5 1 (inside pictureI, inter 0x300 (only 0))
-    ∷ keeping (inside pictureP, intra)
-    ∷ keeping (inside pictureP, inter 0x100 (only 0))
-    ∷ breaking 5 1 (inside pictureP, inter 0x200 (only 0))
-    ∷ breaking 5 1 (inside pictureP, inter 0x300 (only 0))
-    ∷ keeping (inside pictureB, intra)
-    ∷ keeping (inside pictureB, inter 0x100 (only 0))
-    ∷ keeping (inside pictureB, inter 0x200 (only 0))
-    ∷ keeping (inside pictureB, inter 0x300 (only 0))
+    keeping (midSlice pictureI, intra)
+    ∷ breaking 5 1 (midSlice pictureI, inter 0x100 (alike 0))
+    ∷ breaking 5 1 (midSlice pictureI, inter 0x200 (alike 0))
+    ∷ breaking 5 1 (midSlice pictureI, inter 0x300 (alike 0))
+    ∷ keeping (midSlice pictureP, intra)
+    ∷ keeping (midSlice pictureP, inter 0x100 (alike 0))
+    ∷ breaking 5 1 (midSlice pictureP, inter 0x200 (alike 0))
+    ∷ breaking 5 1 (midSlice pictureP, inter 0x300 (alike 0))
+    ∷ keeping (midSlice pictureB, intra)
+    ∷ keeping (midSlice pictureB, inter 0x100 (alike 0))
+    ∷ keeping (midSlice pictureB, inter 0x200 (alike 0))
+    ∷ keeping (midSlice pictureB, inter 0x300 (alike 0))
     ∷ []
 
 -- "MACROBLOCK only in an open group and before W×H of them have come": no group is open; the sixtieth, which is the last, and one
 -- more.
-abbrev sequenceExamples : List Placed
+abbrev sequenceExamples : List Judged
 sequenceExamples =
-    breaking 3 0 (at pictureI groupClosed 3 5, intraWith 0x40000001)
-    ∷ keeping (at pictureI sliceOpen 5 9, command 0x3A00 0x00090005 0xFC0 0x80000001 (only 0))
-    ∷ breaking 3 0 (at pictureI sliceClosed 0 10, command 0x3A00 0x000A0000 0xFC0 0x40000001 (only 0))
+    breaking 3 0 (untouchedAt pictureI groupClosed 3 5, intraWith 0x40000001)
+    ∷ keeping (untouchedAt pictureI sliceOpen 5 9, macroblockWords 0x3A00 0x00090005 0xFC0 0x80000001 (alike 0))
+    ∷ breaking 3 0 (untouchedAt pictureI sliceClosed 0 10, macroblockWords 0x3A00 0x000A0000 0xFC0 0x40000001 (alike 0))
     ∷ []
 
 -- "in P words 5 to 8 all zero": whatever came before; a vector; words 5, 6, 7 and 8 alone, which are then no copies (8).
-abbrev skipExamplesP : List Placed
+abbrev skipExamplesP : List Judged
 skipExamplesP =
-    keeping (inside pictureP, inter 0x104 (only 0))
-    ∷ keeping (behind pictureP (was 1 7 7 7 7), inter 0x104 (only 0))
-    ∷ breaking 11 1 (behind pictureP (was 1 7 7 7 7), inter 0x104 (only 7))
-    ∷ record { given = (inside pictureP, inter 0x104 (7 ∷ 0 ∷ 0 ∷ 0 ∷ [])); breaks = (11, 1) ∷ (8, 6) ∷ (8, 7) ∷ (8, 8) ∷ [] }
-    ∷ record { given = (inside pictureP, inter 0x104 (0 ∷ 7 ∷ 0 ∷ 0 ∷ [])); breaks = (11, 1) ∷ (8, 6) ∷ [] }
-    ∷ record { given = (inside pictureP, inter 0x104 (0 ∷ 0 ∷ 7 ∷ 0 ∷ [])); breaks = (11, 1) ∷ (8, 7) ∷ [] }
-    ∷ record { given = (inside pictureP, inter 0x104 (0 ∷ 0 ∷ 0 ∷ 7 ∷ [])); breaks = (11, 1) ∷ (8, 8) ∷ [] }
+    keeping (midSlice pictureP, inter 0x104 (alike 0))
+    ∷ keeping (following pictureP (was 1 7 7 7 7), inter 0x104 (alike 0))
+    ∷ breaking 11 1 (following pictureP (was 1 7 7 7 7), inter 0x104 (alike 7))
+    ∷ record { given = (midSlice pictureP, inter 0x104 (7 ∷ 0 ∷ 0 ∷ 0 ∷ [])); breaks = (11, 1) ∷ (8, 6) ∷ (8, 7) ∷ (8, 8) ∷ [] }
+    ∷ record { given = (midSlice pictureP, inter 0x104 (0 ∷ 7 ∷ 0 ∷ 0 ∷ [])); breaks = (11, 1) ∷ (8, 6) ∷ [] }
+    ∷ record { given = (midSlice pictureP, inter 0x104 (0 ∷ 0 ∷ 7 ∷ 0 ∷ [])); breaks = (11, 1) ∷ (8, 7) ∷ [] }
+    ∷ record { given = (midSlice pictureP, inter 0x104 (0 ∷ 0 ∷ 0 ∷ 7 ∷ [])); breaks = (11, 1) ∷ (8, 8) ∷ [] }
     ∷ []
 
 -- "in B the macroblock before it is inter with the same type and the same words 5 to 8": each type again; another type with the
 -- same words; words 5, 6, 7 and 8 other than before; intra before it, also before an intra one, which is not skipped (5) and has a
 -- pattern (5); none before it, where a slice should begin (7).
-abbrev skipExamplesB : List Placed
+abbrev skipExamplesB : List Judged
 skipExamplesB =
-    keeping (behind pictureB (was 1 7 7 7 7), inter 0x104 (only 7))
-    ∷ keeping (behind pictureB (was 2 7 7 7 7), inter 0x204 (only 7))
-    ∷ keeping (behind pictureB (was 3 7 9 7 9), inter 0x304 (both 7 9))
-    ∷ breaking 11 1 (behind pictureB (was 2 7 7 7 7), inter 0x104 (only 7))
-    ∷ breaking 11 1 (behind pictureB (was 3 7 7 7 7), inter 0x204 (only 7))
-    ∷ breaking 11 1 (behind pictureB (was 1 7 7 7 7), inter 0x304 (both 7 7))
-    ∷ breaking 11 1 (behind pictureB (was 1 6 7 7 7), inter 0x104 (only 7))
-    ∷ breaking 11 1 (behind pictureB (was 1 7 6 7 7), inter 0x104 (only 7))
-    ∷ breaking 11 1 (behind pictureB (was 1 7 7 6 7), inter 0x104 (only 7))
-    ∷ breaking 11 1 (behind pictureB (was 1 7 7 7 6), inter 0x104 (only 7))
-    ∷ breaking 11 1 (inside pictureB, inter 0x104 (only 0))
-    ∷ record { given = (inside pictureB, inter 0x3A04 (only 0)); breaks = (11, 1) ∷ (5, 1) ∷ (5, 3) ∷ [] }
-    ∷ record { given = (at pictureB groupBegins 0 0, command 0x104 0 0 0x01000001 (only 0)); breaks = (11, 1) ∷ (7, 4) ∷ [] }
+    keeping (following pictureB (was 1 7 7 7 7), inter 0x104 (alike 7))
+    ∷ keeping (following pictureB (was 2 7 7 7 7), inter 0x204 (alike 7))
+    ∷ keeping (following pictureB (was 3 7 9 7 9), inter 0x304 (paired 7 9))
+    ∷ breaking 11 1 (following pictureB (was 2 7 7 7 7), inter 0x104 (alike 7))
+    ∷ breaking 11 1 (following pictureB (was 3 7 7 7 7), inter 0x204 (alike 7))
+    ∷ breaking 11 1 (following pictureB (was 1 7 7 7 7), inter 0x304 (paired 7 7))
+    ∷ breaking 11 1 (following pictureB (was 1 6 7 7 7), inter 0x104 (alike 7))
+    ∷ breaking 11 1 (following pictureB (was 1 7 6 7 7), inter 0x104 (alike 7))
+    ∷ breaking 11 1 (following pictureB (was 1 7 7 6 7), inter 0x104 (alike 7))
+    ∷ breaking 11 1 (following pictureB (was 1 7 7 7 6), inter 0x104 (alike 7))
+    ∷ breaking 11 1 (midSlice pictureB, inter 0x104 (alike 0))
+    ∷ record { given = (midSlice pictureB, inter 0x3A04 (alike 0)); breaks = (11, 1) ∷ (5, 1) ∷ (5, 3) ∷ [] }
+    ∷ record { given = (untouchedAt pictureB groupBegins 0 0, macroblockWords 0x104 0 0 0x01000001 (alike 0)); breaks = (11, 1) ∷ (7, 4) ∷ [] }
     ∷ []
 
 -- "The k-th macroblock, from 0, is at column k mod W, row k div W": a column and a row too many and too few, and both exchanged.
-abbrev positionExamples : List Placed
+abbrev positionExamples : List Judged
 positionExamples =
-    breaking 6 2 (inside pictureP, command 0x100 0x00050004 0 1 (only 0))
-    ∷ breaking 6 2 (inside pictureP, command 0x100 0x00050002 0 1 (only 0))
-    ∷ breaking 6 2 (inside pictureP, command 0x100 0x00060003 0 1 (only 0))
-    ∷ breaking 6 2 (inside pictureP, command 0x100 0x00040003 0 1 (only 0))
-    ∷ breaking 6 2 (inside pictureP, command 0x100 0x00030005 0 1 (only 0))
+    breaking 6 2 (midSlice pictureP, macroblockWords 0x100 0x00050004 0 1 (alike 0))
+    ∷ breaking 6 2 (midSlice pictureP, macroblockWords 0x100 0x00050002 0 1 (alike 0))
+    ∷ breaking 6 2 (midSlice pictureP, macroblockWords 0x100 0x00060003 0 1 (alike 0))
+    ∷ breaking 6 2 (midSlice pictureP, macroblockWords 0x100 0x00040003 0 1 (alike 0))
+    ∷ breaking 6 2 (midSlice pictureP, macroblockWords 0x100 0x00030005 0 1 (alike 0))
     ∷ []
 
 -- "25 no skip conversion (zero in I)"
-abbrev conversionExamples : List Placed
+abbrev conversionExamples : List Judged
 conversionExamples =
-    breaking 5 4 (inside pictureI, intraWith 0x02000001)
-    ∷ keeping (inside pictureP, intraWith 0x02000001)
-    ∷ keeping (inside pictureB, intraWith 0x02000001)
+    breaking 5 4 (midSlice pictureI, intraWith 0x02000001)
+    ∷ keeping (midSlice pictureP, intraWith 0x02000001)
+    ∷ keeping (midSlice pictureB, intraWith 0x02000001)
     ∷ []
 
 -- "first-in-slice exactly when no slice is open; last-in-slice wherever the column is W−1", and elsewhere as one likes
-abbrev sliceExamples : List Placed
+abbrev sliceExamples : List Judged
 sliceExamples =
-    keeping (at pictureI sliceClosed 3 5, intraWith 0x40000001)
-    ∷ breaking 7 4 (at pictureI sliceClosed 3 5, intraWith 1)
-    ∷ breaking 7 4 (inside pictureI, intraWith 0x40000001)
-    ∷ keeping (inside pictureI, intraWith 0x80000001)
-    ∷ keeping (at pictureI sliceOpen 4 5, command 0x3A00 0x00050004 0xFC0 1 (only 0))
-    ∷ breaking 7 4 (at pictureI sliceOpen 5 5, command 0x3A00 0x00050005 0xFC0 1 (only 0))
-    ∷ keeping (at pictureI sliceOpen 5 5, command 0x3A00 0x00050005 0xFC0 0x80000001 (only 0))
+    keeping (untouchedAt pictureI sliceClosed 3 5, intraWith 0x40000001)
+    ∷ breaking 7 4 (untouchedAt pictureI sliceClosed 3 5, intraWith 1)
+    ∷ breaking 7 4 (midSlice pictureI, intraWith 0x40000001)
+    ∷ keeping (midSlice pictureI, intraWith 0x80000001)
+    ∷ keeping (untouchedAt pictureI sliceOpen 4 5, macroblockWords 0x3A00 0x00050004 0xFC0 1 (alike 0))
+    ∷ breaking 7 4 (untouchedAt pictureI sliceOpen 5 5, macroblockWords 0x3A00 0x00050005 0xFC0 1 (alike 0))
+    ∷ keeping (untouchedAt pictureI sliceOpen 5 5, macroblockWords 0x3A00 0x00050005 0xFC0 0x80000001 (alike 0))
     ∷ []
 
 -- "first-in-group exactly on the first macroblock after SLICEGROUP; last-in-group only with last-in-slice"
-abbrev groupExamples : List Placed
+abbrev groupExamples : List Judged
 groupExamples =
-    keeping (at pictureI groupBegins 3 5, intraWith 0x41000001)
-    ∷ breaking 7 4 (at pictureI groupBegins 3 5, intraWith 0x40000001)
-    ∷ breaking 7 4 (at pictureI sliceClosed 3 5, intraWith 0x41000001)
-    ∷ breaking 7 4 (inside pictureI, intraWith 0x01000001)
-    ∷ keeping (inside pictureI, intraWith 0x84000001)
-    ∷ breaking 7 4 (inside pictureI, intraWith 0x04000001)
+    keeping (untouchedAt pictureI groupBegins 3 5, intraWith 0x41000001)
+    ∷ breaking 7 4 (untouchedAt pictureI groupBegins 3 5, intraWith 0x40000001)
+    ∷ breaking 7 4 (untouchedAt pictureI sliceClosed 3 5, intraWith 0x41000001)
+    ∷ breaking 7 4 (midSlice pictureI, intraWith 0x01000001)
+    ∷ keeping (midSlice pictureI, intraWith 0x84000001)
+    ∷ breaking 7 4 (midSlice pictureI, intraWith 0x04000001)
     ∷ []
 
 -- "9 vector beyond f code", of x and of y: the forward vector at both ends of its range and beyond, the backward vector, and both.
-abbrev rangeExamples : List Placed
+abbrev rangeExamples : List Judged
 rangeExamples =
-    keeping (inside pictureB, inter 0x100 (only 0x001F000F))
-    ∷ keeping (inside pictureB, inter 0x100 (only 0xFFE0FFF0))
-    ∷ breaking 9 5 (inside pictureB, inter 0x100 (only 0x00000010))
-    ∷ breaking 9 5 (inside pictureB, inter 0x100 (only 0x0000FFEF))
-    ∷ breaking 9 5 (inside pictureB, inter 0x100 (only 0x00200000))
-    ∷ breaking 9 5 (inside pictureB, inter 0x100 (only 0xFFDF0000))
-    ∷ breaking 9 5 (inside pictureP, inter 0x100 (only 0x00000010))
-    ∷ keeping (inside pictureB, inter 0x200 (only 0x007F003F))
-    ∷ keeping (inside pictureB, inter 0x200 (only 0xFF80FFC0))
-    ∷ breaking 9 6 (inside pictureB, inter 0x200 (only 0x00000040))
-    ∷ breaking 9 6 (inside pictureB, inter 0x200 (only 0x0000FFBF))
-    ∷ breaking 9 6 (inside pictureB, inter 0x200 (only 0x00800000))
-    ∷ breaking 9 6 (inside pictureB, inter 0x200 (only 0xFF7F0000))
-    ∷ keeping (inside pictureB, inter 0x300 (both 0x001F000F 0x007F003F))
-    ∷ breaking 9 5 (inside pictureB, inter 0x300 (both 0x00000010 0x007F003F))
-    ∷ breaking 9 5 (inside pictureB, inter 0x300 (both 0x00200000 0x007F003F))
-    ∷ breaking 9 6 (inside pictureB, inter 0x300 (both 0x001F000F 0x00000040))
-    ∷ breaking 9 6 (inside pictureB, inter 0x300 (both 0x001F000F 0x00800000))
+    keeping (midSlice pictureB, inter 0x100 (alike 0x001F000F))
+    ∷ keeping (midSlice pictureB, inter 0x100 (alike 0xFFE0FFF0))
+    ∷ breaking 9 5 (midSlice pictureB, inter 0x100 (alike 0x00000010))
+    ∷ breaking 9 5 (midSlice pictureB, inter 0x100 (alike 0x0000FFEF))
+    ∷ breaking 9 5 (midSlice pictureB, inter 0x100 (alike 0x00200000))
+    ∷ breaking 9 5 (midSlice pictureB, inter 0x100 (alike 0xFFDF0000))
+    ∷ breaking 9 5 (midSlice pictureP, inter 0x100 (alike 0x00000010))
+    ∷ keeping (midSlice pictureB, inter 0x200 (alike 0x007F003F))
+    ∷ keeping (midSlice pictureB, inter 0x200 (alike 0xFF80FFC0))
+    ∷ breaking 9 6 (midSlice pictureB, inter 0x200 (alike 0x00000040))
+    ∷ breaking 9 6 (midSlice pictureB, inter 0x200 (alike 0x0000FFBF))
+    ∷ breaking 9 6 (midSlice pictureB, inter 0x200 (alike 0x00800000))
+    ∷ breaking 9 6 (midSlice pictureB, inter 0x200 (alike 0xFF7F0000))
+    ∷ keeping (midSlice pictureB, inter 0x300 (paired 0x001F000F 0x007F003F))
+    ∷ breaking 9 5 (midSlice pictureB, inter 0x300 (paired 0x00000010 0x007F003F))
+    ∷ breaking 9 5 (midSlice pictureB, inter 0x300 (paired 0x00200000 0x007F003F))
+    ∷ breaking 9 6 (midSlice pictureB, inter 0x300 (paired 0x001F000F 0x00000040))
+    ∷ breaking 9 6 (midSlice pictureB, inter 0x300 (paired 0x001F000F 0x00800000))
     ∷ []
 
 -- The first macroblock of the picture, and its last.
-abbrev first : ℕ → List ℕ → Progress × List ℕ
-first one vectors = (at pictureB groupBegins 0 0, command one 0 0 0x41000001 vectors)
+abbrev topLeft : ℕ → List ℕ → Progress × List ℕ
+topLeft one vectors = (untouchedAt pictureB groupBegins 0 0, macroblockWords one 0 0 0x41000001 vectors)
 
-abbrev last : ℕ → List ℕ → Progress × List ℕ
-last one vectors = (at pictureB sliceOpen 5 9, command one 0x00090005 0 0x84000001 vectors)
+abbrev bottomRight : ℕ → List ℕ → Progress × List ℕ
+bottomRight one vectors = (untouchedAt pictureB sliceOpen 5 9, macroblockWords one 0x00090005 0 0x84000001 vectors)
 
 -- "10 luma block outside picture": half a sample to the left, above, to the right and below, and the furthest that is inside, from
 -- the last column but one (row).
-abbrev outsideExamples : List Placed
+abbrev outsideExamples : List Judged
 outsideExamples =
-    keeping (first 0x300 (both 0x00010001 0x00200020))
-    ∷ breaking 10 5 (first 0x100 (only 0x0000FFFF))
-    ∷ breaking 10 5 (first 0x100 (only 0xFFFF0000))
-    ∷ breaking 10 6 (first 0x200 (only 0x0000FFFF))
-    ∷ breaking 10 6 (first 0x200 (only 0xFFFF0000))
-    ∷ keeping (last 0x300 (both 0xFFFFFFFF 0xFFE0FFE0))
-    ∷ breaking 10 5 (last 0x300 (both 0x00000001 0))
-    ∷ breaking 10 5 (last 0x300 (both 0x00010000 0))
-    ∷ breaking 10 6 (last 0x300 (both 0 0x00000001))
-    ∷ breaking 10 6 (last 0x300 (both 0 0x00010000))
-    ∷ keeping (at pictureB sliceOpen 4 8, command 0x200 0x00080004 0 1 (only 0x00200020))
-    ∷ breaking 10 6 (at pictureB sliceOpen 4 8, command 0x200 0x00080004 0 1 (only 0x00200021))
-    ∷ breaking 10 6 (at pictureB sliceOpen 4 8, command 0x200 0x00080004 0 1 (only 0x00210020))
+    keeping (topLeft 0x300 (paired 0x00010001 0x00200020))
+    ∷ breaking 10 5 (topLeft 0x100 (alike 0x0000FFFF))
+    ∷ breaking 10 5 (topLeft 0x100 (alike 0xFFFF0000))
+    ∷ breaking 10 6 (topLeft 0x200 (alike 0x0000FFFF))
+    ∷ breaking 10 6 (topLeft 0x200 (alike 0xFFFF0000))
+    ∷ keeping (bottomRight 0x300 (paired 0xFFFFFFFF 0xFFE0FFE0))
+    ∷ breaking 10 5 (bottomRight 0x300 (paired 0x00000001 0))
+    ∷ breaking 10 5 (bottomRight 0x300 (paired 0x00010000 0))
+    ∷ breaking 10 6 (bottomRight 0x300 (paired 0 0x00000001))
+    ∷ breaking 10 6 (bottomRight 0x300 (paired 0 0x00010000))
+    ∷ keeping (untouchedAt pictureB sliceOpen 4 8, macroblockWords 0x200 0x00080004 0 1 (alike 0x00200020))
+    ∷ breaking 10 6 (untouchedAt pictureB sliceOpen 4 8, macroblockWords 0x200 0x00080004 0 1 (alike 0x00200021))
+    ∷ breaking 10 6 (untouchedAt pictureB sliceOpen 4 8, macroblockWords 0x200 0x00080004 0 1 (alike 0x00210020))
     ∷ []
 
 -- The rules of a command alone are among those of its picture: a fixed bit of words 1, 3 and 4, a pattern, and an intra vector.
-abbrev aloneExamples : List Placed
+abbrev aloneExamples : List Judged
 aloneExamples =
-    breaking 4 1 (inside pictureP, inter 0x101 (only 0))
-    ∷ breaking 4 3 (inside pictureP, command 0x100 0x00050003 1 1 (only 0))
-    ∷ breaking 5 3 (inside pictureP, command 0x3A00 0x00050003 0xF80 1 (only 0))
-    ∷ breaking 4 4 (inside pictureP, intraWith 0x21)
-    ∷ breaking 8 5 (inside pictureP, command 0x3A00 0x00050003 0xFC0 1 (7 ∷ 0 ∷ 0 ∷ 0 ∷ []))
+    breaking 4 1 (midSlice pictureP, inter 0x101 (alike 0))
+    ∷ breaking 4 3 (midSlice pictureP, macroblockWords 0x100 0x00050003 1 1 (alike 0))
+    ∷ breaking 5 3 (midSlice pictureP, macroblockWords 0x3A00 0x00050003 0xF80 1 (alike 0))
+    ∷ breaking 4 4 (midSlice pictureP, intraWith 0x21)
+    ∷ breaking 8 5 (midSlice pictureP, macroblockWords 0x3A00 0x00050003 0xFC0 1 (7 ∷ 0 ∷ 0 ∷ 0 ∷ []))
     ∷ []
 
-unfoldable pub examples : List Placed
-examples =
+unfoldable pub placedExamples : List Judged
+placedExamples =
     kindExamples
     ++ sequenceExamples
     ++ skipExamplesP
@@ -304,34 +301,34 @@ change before words after = record { before = before; words = words; after = aft
 -- The first macroblock of a group and of a slice, forward (2, 3): chroma (1, 1) ends at column 8 and row 8, Cr at byte 17 of row 168.
 abbrev begun : Change
 begun =
-    change (at pictureB groupBegins 0 0) (command 0x100 0 0 0x41000001 (only 0x00030002))
-    (progress pictureB sliceOpen 1 0 (was 1 0x00030002 0x00030002 0x00030002 0x00030002) (touched 41088 41088 41602 0))
+    change (untouchedAt pictureB groupBegins 0 0) (macroblockWords 0x100 0 0 0x41000001 (alike 0x00030002))
+    (progressAt pictureB sliceOpen 1 0 (was 1 0x00030002 0x00030002 0x00030002 0x00030002) (touched 41088 41088 41602 0))
 
 -- One inside a slice, forward (3, −5) and backward (−7, 11). Its own Cr ends at byte 63 of row 207, 6·8192 + 3·512 + 15·16 + 15;
 -- forward, chroma (1, −2), at byte 65 of row 206, 6·8192 + 4·512 + 14·16 + 1; backward, chroma (−3, 5), at byte 61 of row 210,
 -- 6·8192 + 3·512 + 18·16 + 13.
 abbrev betweenBoth : Change
 betweenBoth =
-    change (inside pictureB) (inter 0x300 (both 0xFFFB0003 0x000BFFF9))
-    (progress pictureB sliceOpen 4 5 (was 3 0xFFFB0003 0x000BFFF9 0xFFFB0003 0x000BFFF9) (touched 50944 50944 51426 50990))
+    change (midSlice pictureB) (inter 0x300 (paired 0xFFFB0003 0x000BFFF9))
+    (progressAt pictureB sliceOpen 4 5 (was 3 0xFFFB0003 0x000BFFF9 0xFFFB0003 0x000BFFF9) (touched 50944 50944 51426 50990))
 
 -- A skipped one touches no less.
 abbrev skipped : Change
 skipped =
-    change (inside pictureP) (inter 0x104 (only 0)) (progress pictureP sliceOpen 4 5 (was 1 0 0 0 0) (touched 50944 50944 50944 0))
+    change (midSlice pictureP) (inter 0x104 (alike 0)) (progressAt pictureP sliceOpen 4 5 (was 1 0 0 0 0) (touched 50944 50944 50944 0))
 
 -- Intra at the end of a row and of a slice: Cr ends at byte 95 of row 207. What was touched before stays where it is more.
 abbrev rowEnds : Change
 rowEnds =
-    change (progress pictureP sliceOpen 5 5 (was 1 7 7 7 7) (touched 60000 51967 7 8))
-    (command 0x3A00 0x00050005 0xFC0 0x80000001 (only 0))
-    (progress pictureP sliceClosed 0 6 wasNone (touched 60000 51968 7 8))
+    change (progressAt pictureP sliceOpen 5 5 (was 1 7 7 7 7) (touched 60000 51967 7 8))
+    (macroblockWords 0x3A00 0x00050005 0xFC0 0x80000001 (alike 0))
+    (progressAt pictureP sliceClosed 0 6 wasNone (touched 60000 51968 7 8))
 
 -- The last of the picture, of its slice and of its group, backward (−4, 0): chroma (−2, 0) ends at byte 93 of row 239, its own at byte 95.
 abbrev pictureEnds : Change
 pictureEnds =
-    change (at pictureB sliceOpen 5 9) (command 0x200 0x00090005 0 0x84000001 (only 0x0000FFFC))
-    (progress pictureB groupClosed 0 10 (was 2 0x0000FFFC 0x0000FFFC 0x0000FFFC 0x0000FFFC) (touched 60160 60160 0 60158))
+    change (untouchedAt pictureB sliceOpen 5 9) (macroblockWords 0x200 0x00090005 0 0x84000001 (alike 0x0000FFFC))
+    (progressAt pictureB groupClosed 0 10 (was 2 0x0000FFFC 0x0000FFFC 0x0000FFFC 0x0000FFFC) (touched 60160 60160 0 60158))
 
-unfoldable pub changes : List Change
-changes = begun ∷ betweenBoth ∷ skipped ∷ rowEnds ∷ pictureEnds ∷ []
+unfoldable pub placedChanges : List Change
+placedChanges = begun ∷ betweenBoth ∷ skipped ∷ rowEnds ∷ pictureEnds ∷ []

@@ -20,12 +20,12 @@ use Rattle.picture.specs.Pictures.{pictureOf, pictureRules}
 use Rattle.progress.specs.Progress.{fresh}
 use Rattle.progress.specs.declared.Progress.{Progress}
 use Rattle.placement.specs.Blocks.{forwardOf, backwardOf, predicted, blocksOf}
-use Rattle.placement.specs.Examples.{Change}
+use Rattle.placement.specs.Examples.{Judged, Change}
 use Rattle.placement.specs.Placing.{placedRules, macroblockRules}
 use Rattle.placement.specs.Progressing.{positionAfter, stageAfter, extentsAfter, progressAfter, macroblockNext}
 use Rattle.sequence.specs.Sequence.{surfaceNext, pictureNext, groupNext, endNext}
 use Rattle.sequence.specs.Judging.{rulesOf, nextOf}
-use Rattle.sequence.specs.Examples.{Judged, noops, surfaces, pictures, groups, macroblocks, carrieds, ends, unknowns, changes}
+use Rattle.sequence.specs.Examples.{noops, surfaces, pictures, groups, macroblocks, carrieds, ends, unknowns, sequenceChanges}
 
 -- Under a header each example breaks the rules that document 01 says and no other.
 abbrev Worked : Header → List Judged → Type 0
@@ -70,8 +70,8 @@ unfolding rulesOf macroblocks macroblockRules placedRules blocksOf predicted for
     vectorOf wordOf vectorInRange blockAt joined emptyExtent address
 every-macroblock = refl
 
-every-change : map (λ (c : Header × Change). nextOf (c .0) (c .1 .before) (c .1 .words)) changes ≡ map (λ (c : Header × Change). c .1 .after) changes
-unfolding changes nextOf surfaceNext pictureNext groupNext endNext surfaceOf pictureOf fresh
+every-change : map (λ (c : Header × Change). nextOf (c .0) (c .1 .before) (c .1 .words)) sequenceChanges ≡ map (λ (c : Header × Change). c .1 .after) sequenceChanges
+unfolding sequenceChanges nextOf surfaceNext pictureNext groupNext endNext surfaceOf pictureOf fresh
     macroblockNext progressAfter extentsAfter stageAfter positionAfter blocksOf predicted forwardOf backwardOf
     macroblockOf caseOf motionOf vectorOf wordOf vectorInRange blockAt joined emptyExtent address
 every-change = refl
