@@ -8,6 +8,5 @@ pub mod Runs
 pub mod WalkLaws
 -- for this crate alone
 mod Batches
-mod Cases
 mod Exactness
 mod Measuring

@@ -55,14 +55,16 @@ byNext none more whole Incomplete = more
 byNext none more whole (Whole h n) = whole h n
 
 -- The commands of words, after the words `g` of a command that begins at `at`: words are gathered until they are as many as the
--- first of them says. Cutting ends at a word that names no command; a last command that is not whole is none.
+-- first of them says. Cutting ends at a word that names no command; a last command that is not whole is none. What follows a whole
+-- command has a name, so that computing does not look at it where more words are to come.
 unfoldable pub cut : ℕ → List ℕ → List ℕ → List Command
 cut at g [] = []
 cut at g (w ∷ ws) =
+    let others = cut (at + length (g ++ (w ∷ []))) [] ws in
     bySize (headerOf (wordAt (g ++ (w ∷ [])) 0)) (length (g ++ (w ∷ [])))
     []
     (cut at (g ++ (w ∷ [])) ws)
-    (command at (headerOf (wordAt (g ++ (w ∷ [])) 0)) (g ++ (w ∷ [])) ∷ cut (at + length (g ++ (w ∷ []))) [] ws)
+    (command at (headerOf (wordAt (g ++ (w ∷ [])) 0)) (g ++ (w ∷ [])) ∷ others)
 
 -- The commands of a batch.
 unfoldable pub commandsOf : List ℕ → List Command

@@ -5,3 +5,5 @@ pub mod DecodingLengths
 pub mod LogLaws
 pub mod Outcomes
 pub mod RoomLaws
+-- for this crate alone
+mod Cases
