@@ -29,12 +29,13 @@
  * and an earlier caller works as it is. A patch step: neither, but answers may be others. HROMULICE_VERSION is one number, greater for a
  * later version.
  *
+ * 2.1.0: hromulice_state_words.
  * 2.0.0: a hromulice_state has 128 words; it had 99, and a caller that lends one has to be compiled again.
  * 1.0.1: lengths are counted in Y tiles; 1.0.0 counted plain rows. */
 #define HROMULICE_VERSION_MAJOR 2
-#define HROMULICE_VERSION_MINOR 0
+#define HROMULICE_VERSION_MINOR 1
 #define HROMULICE_VERSION_PATCH 0
-#define HROMULICE_VERSION_TEXT "2.0.0"
+#define HROMULICE_VERSION_TEXT "2.1.0"
 #define HROMULICE_VERSION (HROMULICE_VERSION_MAJOR * 65536u + HROMULICE_VERSION_MINOR * 256u + HROMULICE_VERSION_PATCH)
 
 /* Before a function: an answer that is dropped is a warning. */
@@ -104,7 +105,7 @@ typedef struct {
 
 /* The state of a check in parts, in memory that the caller lends. What the words mean is the library's own matter. Any content is
  * taken: words that hromulice_begin or hromulice_hand_over did not leave stand for some state too. It may be copied. There are more words
- * than a state has, so that a later library can keep more in them. */
+ * than a state has, so that a later library can keep more in them. hromulice_state_words answers how many the library takes. */
 #define HROMULICE_STATE_WORDS 128
 typedef struct {
     uint64_t words[HROMULICE_STATE_WORDS];
@@ -121,6 +122,14 @@ typedef struct {
  */
 HROMULICE_MUST_USE
 uint32_t hromulice_version(void);
+
+/* The words of a hromulice_state, as the library takes and writes them. A header that gives it another size is found out by
+ *
+ *     if (8 * hromulice_state_words() != sizeof(hromulice_state))
+ *
+ * before any call that lends one: with fewer words the library would write over what stands behind them. */
+HROMULICE_MUST_USE
+uint64_t hromulice_state_words(void);
 
 /* Checks `count` words as a whole batch, with four buffers of these lengths. Writes nothing. */
 HROMULICE_MUST_USE
@@ -174,7 +183,6 @@ hromulice_report hromulice_report_of(const hromulice_state *state);
 HROMULICE_LAYOUT(sizeof(hromulice_lengths) == 32);
 HROMULICE_LAYOUT(sizeof(hromulice_report) == 48 && offsetof(hromulice_report, place) == 8 && offsetof(hromulice_report, lengths) == 16);
 HROMULICE_LAYOUT(sizeof(hromulice_answer) == 16 && offsetof(hromulice_answer, place) == 8);
-HROMULICE_LAYOUT(sizeof(hromulice_state) == 8 * HROMULICE_STATE_WORDS);
 #undef HROMULICE_LAYOUT
 #endif
 

@@ -198,6 +198,8 @@ int main(int argc, char **argv)
         fail("usage: check_batch FILE [LOG]");
     if (hromulice_version() != HROMULICE_VERSION)
         fail("the library is not of version " HROMULICE_VERSION_TEXT);
+    if (8 * hromulice_state_words() != sizeof(hromulice_state))
+        fail("the library takes a state of another size");
     file = fopen(argv[1], "rb");
     if (file == NULL)
         fail("the file cannot be opened");

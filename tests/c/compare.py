@@ -7,7 +7,7 @@ ROOT is the repository's. A stored file is NAME.batch, with the line due in NAME
 accepted one in NAME.batch.log, in hexadecimal; the second program wrote them. What is due for a damaged file follows from the stored line
 and from document 01's section on the program. The meanings are those of texts.txt.
 
-WORK/other-* were compiled with a header of another version.
+WORK/other_version-* were compiled with a header of another version, and WORK/other_size-* with one that gives a state another size.
 """
 import os
 import pathlib
@@ -107,7 +107,7 @@ def check_stored(program):
 
 
 def check_files(program):
-    """Files that cannot be read or written, a file that cannot be read twice, and a header of another version."""
+    """Files that cannot be read or written, a file that cannot be read twice, and a header that does not fit the library."""
     p1, refused = root / 'samples/p1.batch', root / 'samples/vector_below.batch'
     line = p1.with_suffix('.batch.line').read_text().rstrip('\n')
     for arguments in [], [p1, work / 'log', 'more'], [work / 'none'], [work]:
@@ -120,7 +120,8 @@ def check_files(program):
     piped = run('sh', '-c', 'cat "$0" | "$1" /dev/stdin', p1, program)
     if piped.returncode != 0 or piped.stdout.split('\n')[0] != line:
         fail(f'from a pipe {program} gives {piped.stdout!r}')
-    expect_nothing(program.replace('check_batch-', 'other-'), p1)
+    for other in 'other_version-', 'other_size-':
+        expect_nothing(program.replace('check_batch-', other), p1)
 
 
 for program in programs:

@@ -3,6 +3,7 @@
 #include <hromulice_text.h>
 
 #define ARGUMENTS_hromulice_version ()
+#define ARGUMENTS_hromulice_state_words ()
 #define ARGUMENTS_hromulice_check (words, 9, lengths)
 #define ARGUMENTS_hromulice_decode (words, 9, lengths, bytes, 24)
 #define ARGUMENTS_hromulice_read_command (words, 9, bytes, 24)

@@ -20,4 +20,5 @@ dropped! {
     RecordWritten: "write_command(&[], &mut [])",
     Text: "meaning(1)",
     Edition: "version()",
+    Size: "state_words()",
 }

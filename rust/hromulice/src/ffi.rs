@@ -36,6 +36,7 @@ pub struct State {
 
 extern "C" {
     fn hromulice_version() -> u32;
+    fn hromulice_state_words() -> u64;
     fn hromulice_check(words: *const u32, count: usize, lengths: Lengths) -> Report;
     fn hromulice_decode(words: *const u32, count: usize, lengths: Lengths, log: *mut u8, bytes: usize) -> Report;
     fn hromulice_read_command(words: *const u32, count: usize, record: *mut u8, bytes: usize) -> Answer;
@@ -48,6 +49,11 @@ extern "C" {
 pub fn version() -> u32 {
     // SAFETY: nothing is lent.
     unsafe { hromulice_version() }
+}
+
+pub fn state_words() -> u64 {
+    // SAFETY: nothing is lent.
+    unsafe { hromulice_state_words() }
 }
 
 pub fn check(words: &[u32], lengths: Lengths) -> Report {

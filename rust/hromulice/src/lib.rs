@@ -10,6 +10,7 @@
 //! - [`read_command`] and [`write_command`]: one MACROBLOCK command to its record, and back to the same bits.
 //! - [`meaning`]: what a number means, also one that a program printed.
 //! - [`version`]: the library's version, to be compared with the crate's, [`VERSION`].
+//! - [`state_words`]: the words that the library takes for a [`Check`].
 //!
 //! ```
 //! use hromulice::{check, example, Lengths, Report};
@@ -50,7 +51,7 @@ mod dropped;
 
 pub mod example;
 
-pub use parts::Check;
+pub use parts::{state_words, Check};
 pub use reason::{meaning, Reason, Refusal};
 pub use report::{Buffer, Lengths, Report};
 pub use version::{version, Version, VERSION};

@@ -71,6 +71,19 @@ impl Check {
     }
 }
 
+/// How many 64-bit words the linked library takes for a check under way. It is the size of a [`Check`] unless crate and library
+/// were taken from two places:
+///
+/// ```
+/// use hromulice::{state_words, Check};
+///
+/// assert_eq!(8 * state_words(), size_of::<Check>() as u64, "libhromulice.a takes a check of another size");
+/// ```
+#[must_use = "crate and library of two sizes are found out by comparing it with the size of a Check"]
+pub fn state_words() -> u64 {
+    ffi::state_words()
+}
+
 impl fmt::Debug for Check {
     fn fmt(&self, f: &mut fmt::Formatter<'_>) -> fmt::Result {
         f.debug_struct("Check").field("report", &self.report()).finish_non_exhaustive()

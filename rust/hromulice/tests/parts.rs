@@ -3,7 +3,7 @@
 mod common;
 
 use common::{p1_with, P1, P1_LENGTHS};
-use hromulice::{check, Check, Lengths, Reason, Report};
+use hromulice::{check, state_words, Check, Lengths, Reason, Report};
 
 fn refusal(check: &Check) -> Option<(Reason, u64)> {
     check.report().refusal().map(|refusal| (refusal.reason, refusal.place))
@@ -69,6 +69,12 @@ fn may_be_sent_to_another_thread() {
         check.report()
     });
     assert_eq!(report.join().unwrap(), Report::Accepted(P1_LENGTHS));
+}
+
+/// A check has the words that the library takes, and nothing else.
+#[test]
+fn words_of_a_check() {
+    assert_eq!(8 * state_words(), size_of::<Check>() as u64);
 }
 
 #[test]
