@@ -9,7 +9,8 @@ tests/repository_test.py tries each on a small tree.
   (name: ..), each in another function; each was refused as it stands now and at a fact, not because the proof no longer fits the code: a wrong
   definition by the law that it names, a wrong program in the proof of the very function that it changes.
 - Every name that docs/CLAIMS.md cites is declared in the file that it cites, and every edit that it cites is there.
-- What a cited law states is declared in specs/, worked examples apart, and each file of specs/ says whether it has to be believed or which law proves it.
+- What a cited law states is declared in specs/, worked examples apart, and each file of specs/ says whether it has to be believed or which law
+  proves it.
 - Laws that a crate of definitions has for its functions alone (`proofs/Lib.antt`) are cited by nobody else.
 - No law above `prediction` unfolds one of its definitions, closed statements in the files of worked examples apart; its code may.
 - No function between a vector word and its components divides, takes a remainder or multiplies.

@@ -85,7 +85,8 @@ new:     m + 0
 | Claim | Said by | Edits |
 |---|---|---|
 | Twice | `twice` (`crates/one/specs/Twice.antt`), `same` (`crates/one/specs/Twice.antt`), `twice-sum` (`crates/one/proofs/Laws.antt`) | `one/three` |
-| Small | `twice-small` (`crates/one/proofs/Laws.antt`), `twice` (`crates/one_code/src/lib.rt`), `MOST` (`crates/one_code/src/lib.rt`) | `one_code/twice_once` |
+| Small | `twice-small` (`crates/one/proofs/Laws.antt`) | |
+| In code | `twice` (`crates/one_code/src/lib.rt`), `MOST` (`crates/one_code/src/lib.rt`) | `one_code/twice_once` |
 ''',
     'README.md': 'A text.\n',
 }
@@ -168,7 +169,7 @@ class Refusals(Tree):
         self.passes(refusals.check_refusals, 2)
 
     def test_law_that_is_only_unfit_in_the_second_line(self):
-        unfit = '`twice-sum`: `tie.A-very-long-name`: module `Rattle.one.specs.Twice` has no `twice`\n  that can be named from here\n'
+        unfit = '`twice-sum`: module `Rattle.one.specs.Twice` has no `twice`\n  that can be named from here\n'
         fact = 'ROOT/proofs/Other.antt:3:1: error: `other`: expected type `1 ≡ 2`, but this has type `1 ≡ 1`\n'
         self.log('one', 'three', f'{fact}ROOT/proofs/Laws.antt:8:1: error: {unfit}logic=not-proved\n')
         self.refuses(refusals.check_refusals, 'twice-sum did not refuse it')
@@ -179,7 +180,7 @@ class Refusals(Tree):
         self.refuses(refusals.check_refusals, 'names no fact first')
 
     def test_function_whose_proof_is_unfit_first(self):
-        unfit = 'ROOT/proofs/twice/Proof.antt:4:1: error: `wide-requires`: `tie.Need-wide-requires`: module `Tie` has no `Need-wide-requires`\n  that can be named from here\n'
+        unfit = 'ROOT/proofs/twice/Proof.antt:4:1: error: `wide-requires`: module `Tie` has no `Need-wide-requires`\n  that can be named from here\n'
         fact = 'ROOT/proofs/wide/Proof.antt:3:1: error: `returns`: expected type `1 ≡ 2`, but this has type `1 ≡ 1`\n'
         self.log('one_code', 'wrong_1', fact + unfit + CODE_LOG)
         self.refuses(refusals.check_refusals, 'twice_once', 'not refused at a fact in the proof of the function')
@@ -188,11 +189,14 @@ class Refusals(Tree):
         self.log('one_code', 'wrong_1', CODE_LOG.replace('twice: not proved', 'twice: proved'))
         self.refuses(refusals.check_refusals, 'not refused at a fact')
 
-    def test_what_is_said_on_showing_and_quoted_words_count_for_nothing(self):
-        fact = 'error: `a`: the two types are `b was not admitted` (expected) and `c` (found)'
-        self.assertTrue(refusals.is_fact(f'{fact} `M`, `C` are not in scope here, so what is shown does not paste back as it stands'))
-        self.assertFalse(refusals.is_fact('error: `a`: `expected type x, but this has type y` is not in scope'))
+    def test_quoted_words_count_for_nothing(self):
+        self.assertTrue(refusals.is_fact('error: `a`: the two types are `b was not admitted` (expected) and `c` (found)'))
+        self.assertFalse(refusals.is_fact('error: `a`: `it is not proved that` is not in scope'))
         self.assertFalse(refusals.is_fact('error: `)` cannot continue the declaration here'))
+
+    def test_notes_are_no_errors(self):
+        self.log('one', 'three', 'ROOT/proofs/Laws.antt:8:1: note: the name is idle\n' + LAW_LOG)
+        self.passes(refusals.check_refusals, 2)
 
     def test_log_of_another_text(self):
         self.change('crates/one/proofs/Laws.antt', 'omega arith', 'omega (arith, small)')
@@ -253,14 +257,18 @@ class Contracts(Tree):
         self.change('crates/one/must-fail/three.edit', 'one_code::twice', 'one_code::other')
         faults = []
         contracts.check_contracts(self.root, faults)
-        self.assertTrue(any('says not which public function' in fault for fault in faults) and any('no must-fail edit with a wrong definition' in fault for fault in faults))
+        self.assertEqual(len(faults), 2, faults)
+        self.assertIn('three says not which public function it guards', faults[0])
+        self.assertEqual(faults[1], 'one_code::twice has no must-fail edit with a wrong definition')
 
     def test_edit_of_a_comment(self):
-        self.change('crates/one_code/must-fail/wrong_1.edit', 'old:     m + wide(n)\nnew:     m + 0', 'old: it requires nothing\nnew: nothing')
+        edit = 'crates/one_code/must-fail/wrong_1.edit'
+        self.change(edit, 'old:     m + wide(n)\nnew:     m + 0', 'old: it requires nothing\nnew: nothing')
         self.refuses(contracts.check_contracts, 'twice_once', 'nothing but comments and marks')
 
     def test_edit_of_marks(self):
-        self.change('crates/one/must-fail/three.edit', 'old: twice n = n + n\nnew: twice n = n + n + n', 'old: unfoldable pub twice\nnew: pub twice')
+        edit = 'crates/one/must-fail/three.edit'
+        self.change(edit, 'old: twice n = n + n\nnew: twice n = n + n + n', 'old: unfoldable pub twice\nnew: pub twice')
         self.refuses(contracts.check_contracts, 'three', 'nothing but comments and marks')
 
     def test_edit_of_a_signature(self):
@@ -272,7 +280,8 @@ class Contracts(Tree):
         self.refuses(contracts.check_contracts, 'changes a contract or a signature')
 
     def test_edit_of_a_proof(self):
-        self.change('crates/one/must-fail/three.edit', 'file: specs/Twice.antt\nold: twice n = n + n\nnew: twice n = n + n + n', 'file: proofs/Laws.antt\nold: omega arith\nnew: refl')
+        edit = 'crates/one/must-fail/three.edit'
+        self.change(edit, 'specs/Twice.antt\nold: twice n = n + n\nnew: twice n = n + n + n', 'proofs/Laws.antt\nold: omega arith\nnew: refl')
         self.refuses(contracts.check_contracts, 'changes a text in specs/')
 
     def test_law_that_is_not_there(self):
@@ -309,24 +318,29 @@ class Claims(Tree):
         self.passes(claims.check_claims, 8)
 
     def test_what_is_no_declaration(self):
-        wrong = (
-            ('crates/one/proofs/Laws.antt', 'unfolding'), ('crates/one/proofs/Laws.antt', 'twice'), ('crates/one/proofs/Laws.antt', 'by'), ('crates/one/proofs/Laws.antt', 'n'),
-            ('crates/one/proofs/Laws.antt', 'small'), ('crates/one/specs/Twice.antt', 'two'), ('crates/one_code/src/lib.rt', 'it'), ('crates/one_code/src/lib.rt', 'n'),
-            ('crates/one_code/src/lib.rt', 'u32'), ('README.md', 'text'), ('crates/one/proofs/None.antt', 'a'))
-        for path, name in wrong:
+        wrong = {
+            'crates/one/proofs/Laws.antt': ('unfolding', 'twice', 'by', 'n', 'small'),
+            'crates/one/specs/Twice.antt': ('two', 'Prim'),
+            'crates/one_code/src/lib.rt': ('it', 'n', 'm', 'u32', 'fn'),
+            'crates/one/proofs/None.antt': ('twice',),
+            'README.md': ('text',),
+        }
+        for path, name in ((path, name) for path, names in wrong.items() for name in names):
             with self.subTest(path=path, name=name):
                 self.cite(name, path)
                 self.refuses(claims.check_claims, f'{name} does not stand in {path}')
 
     def test_name_in_an_unfolding_list_a_comment_or_a_clause(self):
-        for line in ('unfolding\n    lost twice\n', 'unfolding lost\n', '-- lost : ℕ\n', '{-\nlost : ℕ\n-}\n', 'lost = 3\n', '  lost : ℕ\n', '    let lost : ℕ = 3 in\n'):
+        lines = ('unfolding\n    lost twice', 'unfolding lost', '-- lost : ℕ', '{-\nlost : ℕ\n-}', 'lost = 3', '  lost : ℕ', '    let lost : ℕ = 3 in')
+        for line in lines:
             with self.subTest(line=line):
-                self.write('crates/one/proofs/Laws.antt', BASE['crates/one/proofs/Laws.antt'].replace('unfolding twice\n', line))
+                self.write('crates/one/proofs/Laws.antt', BASE['crates/one/proofs/Laws.antt'].replace('unfolding twice', line))
                 self.cite('lost', 'crates/one/proofs/Laws.antt')
                 self.refuses(claims.check_claims, 'lost does not stand in')
 
     def test_function_in_a_comment(self):
-        self.write('crates/one_code/src/lib.rt', BASE['crates/one_code/src/lib.rt'] + '\n// pub fn lost()\n/*\nfn lost() {}\nstruct lost;\n*/\n')
+        lost = '\n// pub fn lost()\n/*\nfn lost() {}\nstruct lost;\n*/\n'
+        self.write('crates/one_code/src/lib.rt', BASE['crates/one_code/src/lib.rt'] + lost)
         self.cite('lost', 'crates/one_code/src/lib.rt')
         self.refuses(claims.check_claims, 'lost does not stand in')
 
@@ -348,16 +362,23 @@ class Statements(Tree):
         self.refuses(claims.check_statements, 'twice-small states something by thrice')
 
     def test_definition_of_another_file_by_each_way_of_naming_it(self):
-        self.write('crates/two/proofs/Defs.antt', '-- Sizes.\npub record Small (n : ℕ) : Type 0 where\n  pub below : n < 4\n\nplain : ℕ → Type 0\nplain n = n ≡ n\n')
-        for use, name in (('.{Small}', 'Small'), ('.{Small as S}', 'S'), (' as d', 'd.Small'), ('', 'Defs.Small'), ('', 'Rattle.two.proofs.Defs.Small'), ('.{plain}', 'plain')):
+        record = 'pub record Small (n : ℕ) : Type 0 where\n  pub below : n < 4\n'
+        self.write('crates/two/proofs/Defs.antt', f'-- Sizes.\n{record}\nplain : ℕ → Type 0\nplain n = n ≡ n\n')
+        ways = (
+            ('.{Small}', 'Small'), ('.{Small as S}', 'S'), (' as d', 'd.Small'), ('', 'Defs.Small'), ('', 'Rattle.two.proofs.Defs.Small'),
+            ('.{plain}', 'plain'))
+        for use, name in ways:
             with self.subTest(use=use, name=name):
                 content = BASE['crates/one/proofs/Laws.antt'].replace('→ twice n', f'→ {name} n → twice n')
                 self.write('crates/one/proofs/Laws.antt', content.replace('use Rattle', f'use Rattle.two.proofs.Defs{use}\nuse Rattle', 1))
                 self.refuses(claims.check_statements, f'states something by {name}')
 
     def test_bound_names_and_fields_are_no_uses(self):
-        self.change('crates/one/proofs/Laws.antt', '(n : ℕ) → twice n ≡', '(thrice n : ℕ) → (λ x. x .thrice) ≡')
-        self.passes(claims.check_statements, 2)
+        for statement in ('(thrice : ℕ) → thrice ≡ 3', '(x : ℕ) → x .thrice ≡ 3', '(λ thrice. thrice) ≡ 3', 'held ≡ 3'):
+            with self.subTest(statement=statement):
+                content = BASE['crates/one/proofs/Laws.antt'].replace('(n : ℕ) → twice n ≡ n + n', statement)
+                self.write('crates/one/proofs/Laws.antt', content + '\nrecord Holds : Type 0 where\n  held : ℕ\n')
+                self.passes(claims.check_statements, 2)
 
     def test_definition_that_is_cited_in_proofs(self):
         self.write('docs/CLAIMS.md', '`thrice` (`crates/one/proofs/Laws.antt`)\n')
@@ -402,12 +423,12 @@ class Unfolding(Tree):
 
     def test_each_way_of_naming_it(self):
         ways = (
-            ('.{blockAt}', 'unfolding blockAt'), ('.{other, blockAt as b}', 'unfolding b'), (' as x', 'unfolding x.blockAt'), ('', 'unfolding Blocks.blockAt'),
-            ('.{other}', 'unfolding Rattle.prediction.specs.Blocks.blockAt'), ('.{blockAt}', 'unfolding other\n    more blockAt'),
-            ('.{\n    other,\n    blockAt\n  }', 'unfolding blockAt'), (' as x\nuse x.{blockAt}', 'unfolding blockAt'))
-        for use, line in ways:
-            with self.subTest(use=use, line=line):
-                self.unfold(self.LAW, use, line)
+            ('.{blockAt}', 'blockAt'), ('.{other, blockAt as b}', 'b'), (' as x', 'x.blockAt'), ('', 'Blocks.blockAt'),
+            ('.{other}', 'Rattle.prediction.specs.Blocks.blockAt'), ('.{blockAt}', 'other\n    more blockAt'),
+            ('.{\n    other,\n    blockAt\n  }', 'blockAt'), (' as x\nuse x.{blockAt}', 'blockAt'))
+        for use, names in ways:
+            with self.subTest(use=use, names=names):
+                self.unfold(self.LAW, use, f'unfolding {names}')
                 self.refuses(laws.check_unfolding, 'law unfolds', 'of prediction')
 
     def test_in_a_term(self):
@@ -416,7 +437,8 @@ class Unfolding(Tree):
             self.refuses(laws.check_unfolding, 'law unfolds', 'of prediction')
 
     def test_in_a_helper_and_in_a_definition(self):
-        self.unfold(self.LAW, '.{blockAt}', '-- none', proof='law n = by n\n  where\n    by : (n : ℕ) → n ≡ n\n    unfolding blockAt\n    by n = refl')
+        helper = 'by : (n : ℕ) → n ≡ n\n    unfolding blockAt\n    by n = refl'
+        self.unfold(self.LAW, '.{blockAt}', '-- none', proof=f'law n = by n\n  where\n    {helper}')
         self.refuses(laws.check_unfolding, 'law unfolds blockAt')
         self.unfold(self.LAW, '.{blockAt}', '-- none')
         self.unfold('crates/one/specs/Twice.antt', '.{blockAt}', 'unfolding blockAt', 'abbrev pub law : ℕ → ℕ')
@@ -453,8 +475,13 @@ class Unfolding(Tree):
         self.unfold(self.WORKED, '.{blockAt}', '  unfolding blockAt', 'module _ (n : ℕ) where\n  law : blockAt n ≡ n', '  law = refl')
         faults = []
         laws.check_unfolding(self.root, faults)
-        self.assertEqual([fault.split(': ', 1)[1] for fault in faults], ['law is a law over variables, in a file of worked examples', 'law unfolds blockAt of prediction'])
-        for statement, proof in (('abbrev law : (n : ℕ) → blockAt n ≡ n', 'law n = refl'), ('abbrev law : Type 0', 'law = (n : ℕ) → blockAt n ≡ n'), ('law : All', 'law = λ n. refl')):
+        self.assertEqual(len(faults), 2, faults)
+        self.assertIn('law is a law over variables', faults[0])
+        self.assertIn('law unfolds blockAt of prediction', faults[1])
+        ways = (
+            ('abbrev law : (n : ℕ) → blockAt n ≡ n', 'law n = refl'), ('abbrev law : Type 0', 'law = (n : ℕ) → blockAt n ≡ n'),
+            ('law : All', 'law = λ n. refl'))
+        for statement, proof in ways:
             with self.subTest(statement=statement):
                 self.unfold(self.WORKED, '.{blockAt}', 'unfolding blockAt', statement, proof)
                 self.refuses(laws.check_unfolding, 'law unfolds blockAt')
@@ -474,7 +501,8 @@ class Borders(Tree):
         self.passes(laws.check_borders, 1)
 
     def test_each_way_of_naming_it(self):
-        for line in ('use Rattle.one.proofs.Bridge.{law}', 'use Rattle.one.proofs.Bridge as b', 'use package.Rattle.one.proofs.Bridge', 'law = Rattle.one.proofs.Bridge.law'):
+        module = 'Rattle.one.proofs.Bridge'
+        for line in (f'use {module}.{{law}}', f'use {module} as b', f'use package.{module}', f'law = {module}.law'):
             with self.subTest(line=line):
                 self.use('crates/two/proofs/Laws.antt', line)
                 self.refuses(laws.check_borders, 'cites Bridge of one')
@@ -498,7 +526,7 @@ class Documents(Tree):
         self.refuses(documents.check_tables, 'docs/CLAIMS.md:7', 'no blank line divides a table')
 
     def test_row_of_another_width(self):
-        for row in ('| a |', '| a | b | c |', '| `a | b` | c |', '| a | b'):
+        for row in ('| a |', '| a | b | c |', '| `a | b` | c |', '| a | b | c'):
             with self.subTest(row=row):
                 self.write('README.md', f'| a | b |\n|---|---|\n{row}\n')
                 self.refuses(documents.check_tables, 'README.md:3', 'in a table of 2')
@@ -514,7 +542,8 @@ class Documents(Tree):
 class Reading(unittest.TestCase):
     def test_members_of_types_and_modules(self):
         code = 'pub data P : Type 0 where\n  a b : P\n\nmutual\n  f : P → P\n  f x = x\n\ng {A : Type 0} : A\n'
-        self.assertEqual([(d.name, d.kind) for d in antt.declarations(code)], [('P', 'data'), ('a', 'constructor'), ('b', 'constructor'), ('f', 'law'), ('g', 'law')])
+        found = [(d.name, d.kind) for d in antt.declarations(code)]
+        self.assertEqual(found, [('P', 'data'), ('a', 'constructor'), ('b', 'constructor'), ('f', 'law'), ('g', 'law')])
 
 
 if __name__ == '__main__':

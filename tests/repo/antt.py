@@ -95,15 +95,14 @@ def bound(text):
 
 
 def named(text):
-    """The names that a statement uses, as they are written there; neither fields nor what it binds."""
-    words = {word.rstrip('.') for word in re.findall(r'[^\s(){};,]+', text) if not word.startswith('.')}
-    return words - bound(text)
+    """The names that a statement uses, as they are written there, but for those that it binds."""
+    return {word.rstrip('.') for word in re.findall(r'[^\s(){};,]+', text)} - bound(text)
 
 
 def closed(declaration):
     """A statement without a variable; functions that it only maps over a list do not count."""
     text = re.sub(r'λ\s*(?:\([^()]*\)\s*|[^.\s()]+\s*)*\.', '', declaration.statement)
-    return not declaration.context and not re.search(r'→|∀|[({][^(){}:]+ :\s|\bType\b', text)
+    return not declaration.context and not re.search(r'→|∀|[({][^(){}:]+ :\s', text)
 
 
 def declared_in(file):

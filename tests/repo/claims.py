@@ -35,8 +35,11 @@ def check_claims(root, faults):
 
 def check_statements(root, faults):
     """A theorem's reader reads its statement and specs/: no name of its statement is declared in proofs/."""
-    inside = {f'{antt.module_of(root, file)}.{d.name}' for file in sorted(root.glob('crates/*/proofs/**/*.antt')) for d in antt.declared_in(file) if d.kind != 'field'}
-    cited = {(root / path, name) for name, path in CITED.findall((root / 'docs' / 'CLAIMS.md').read_text()) if re.match(r'crates/\w+/proofs/.*\.antt$', path)}
+    inside = set()
+    for file in root.glob('crates/*/proofs/**/*.antt'):
+        inside.update(f'{antt.module_of(root, file)}.{d.name}' for d in antt.declared_in(file) if d.kind != 'field')
+    text = (root / 'docs' / 'CLAIMS.md').read_text()
+    cited = {(root / path, name) for name, path in CITED.findall(text) if re.match(r'crates/\w+/proofs/.*\.antt$', path)}
     count = 0
     for file in sorted({file for file, _ in cited if file.is_file() and str(file.relative_to(root)) not in WORKED}):
         code = read_code(file)

@@ -7,9 +7,9 @@ from .text import read_code
 # Worked examples: files of closed statements, which compute. Only such a statement may unfold what `prediction` keeps to itself.
 WORKED = {
     f'crates/{path}.antt' for path in (
-        'answers/proofs/Worked', 'fields/proofs/Worked', 'headers/proofs/Worked', 'lists/proofs/Worked', 'prediction/proofs/Worked', 'macroblock/proofs/Worked',
-        'picture/proofs/Worked', 'progress/proofs/Worked', 'placement/proofs/Worked', 'records/proofs/Worked', 'sequence/proofs/Worked', 'batch/proofs/Cases',
-        'batch/proofs/Batches', 'decoding/proofs/Cases', 'input/proofs/Worked')
+        'lists/proofs/Worked', 'answers/proofs/Worked', 'fields/proofs/Worked', 'headers/proofs/Worked', 'prediction/proofs/Worked',
+        'macroblock/proofs/Worked', 'picture/proofs/Worked', 'progress/proofs/Worked', 'placement/proofs/Worked', 'records/proofs/Worked',
+        'sequence/proofs/Worked', 'batch/proofs/Cases', 'batch/proofs/Batches', 'decoding/proofs/Cases', 'input/proofs/Worked')
 }
 
 
@@ -37,7 +37,7 @@ def check_borders(root, faults):
 
 def worked(declaration):
     """A closed statement that is proved by computing it."""
-    return antt.closed(declaration) and re.search(rf'^{re.escape(declaration.name)} = (?:refl|\(refl(?:, refl)+\))\s*\Z', declaration.body, re.M) is not None
+    return antt.closed(declaration) and re.search(rf'^ *{re.escape(declaration.name)} = (?:refl|\(refl(?:, refl)+\))\s*\Z', declaration.body, re.M) is not None
 
 
 def check_unfolding(root, faults):

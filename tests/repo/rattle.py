@@ -46,9 +46,10 @@ def functions_in(code, file, module):
         around = [(kind, name) for kind, name, start, end in blocks if start < m.start() < end]
         start = body_of(code, m.end())
         end = closing(code, start)
-        yield Function(
-            file=file, module=module + [name for kind, name in around if kind == 'mod'], owner=''.join(name for kind, name in around if kind == 'impl'), name=m[4],
-            public=m[3] == 'pub ', contract=code[m.start(4):start], body=code[start:end], first=code.count('\n', 0, m.start()) + 1, last=code.count('\n', 0, end) + 1)
+        modules = module + [name for kind, name in around if kind == 'mod']
+        owner = ''.join(name for kind, name in around if kind == 'impl')
+        lines = [code.count('\n', 0, place) + 1 for place in (m.start(), end)]
+        yield Function(file, modules, owner, m[4], m[3] == 'pub ', code[m.start(4):start], code[start:end], *lines)
 
 
 def functions(crate):

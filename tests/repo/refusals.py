@@ -4,19 +4,18 @@ import re
 from . import rattle
 from .edits import changed, edits
 
-# What the prover says where a fact does not hold, beside what it quotes: of two types, of a function, and by omega, search, cc and simp.
+# What the prover says where a fact does not hold, beside what it quotes: of two types, of a function, and by omega, search, cc and simp. Whatever
+# else it says, as of a name or a field that is not there or of a law that was not admitted, only shows that a proof does not fit.
 FACTS = (
     r'expected type `_`,? but this has type',
     r'the two (?:types|sides) (?:differ only|first differ|are) |`_` ≟ `_` does not hold',
     r'it is not proved that',
     r'does not follow from what it read',
-    r'no proof of `_` was found',
+    r'no proof of `_` was found|found no proof',
     r'the equations do not join|before the equations had joined',
     r'no equation of the list (?:has an instance|can be applied)',
     r'must be a path whose two ends are equal',
 )
-# What it says where a proof does not fit what it is about, or stands on another that was refused.
-UNFIT = ('that can be named from here', 'is not a name', 'not in scope', 'has no field', 'was not admitted')
 
 
 def errors_in(log):
@@ -26,14 +25,9 @@ def errors_in(log):
     return [(file, int(line), ' '.join(message.split())) for file, line, message in found if not message.startswith('note:')]
 
 
-def said(message):
-    """A message without what it quotes, and without what it says on how to write what it shows."""
-    return re.sub(r'(?:`_`(?:, | and )?)+ (?:is|are) not in scope here, so what is shown does not paste back', '', re.sub(r'`[^`]*`', '`_`', message))
-
-
 def is_fact(message):
-    words = said(message)
-    return any(re.search(fact, words) for fact in FACTS) and not any(word in words for word in UNFIT)
+    words = re.sub(r'`[^`]*`', '`_`', message)
+    return any(re.search(fact, words) for fact in FACTS)
 
 
 def refused_by_law(found, edit):
