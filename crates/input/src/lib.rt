@@ -11,7 +11,7 @@ pub struct Stream {
     pub state: State,
 }
 
-// A line: the first `len` bytes.
+// A line: the first `len` bytes. The others are zero.
 pub struct OutputLine {
     pub bytes: [u8; 256],
     pub len: usize,

@@ -2,5 +2,6 @@
 mod Copying
 mod Endings
 mod HeldBytes
+mod Lines
 mod Texts
 mod WordLaws

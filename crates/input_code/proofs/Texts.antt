@@ -18,13 +18,8 @@ spaced-append (x ∷ xs) ys =
     ∙ ap (λ (r : List ℕ). 32 ∷ r) (sym (append-assoc (decimal x) (spaced xs) (spaced ys)))
 
 -- numbers behind numbers
-pub then-spaced : (base xs ys : List ℕ) {first both : List ℕ} → first ≡ base ++ spaced xs → both ≡ first ++ spaced ys
-    → both ≡ base ++ spaced (xs ++ ys)
-then-spaced base xs ys d e =
-    e
-    ∙ ap (λ (x : List ℕ). x ++ spaced ys) d
-    ∙ append-assoc base (spaced xs) (spaced ys)
-    ∙ ap (λ (x : List ℕ). base ++ x) (sym (spaced-append xs ys))
+pub then-spaced : (base xs ys : List ℕ) → (base ++ spaced xs) ++ spaced ys ≡ base ++ spaced (xs ++ ys)
+then-spaced base xs ys = append-assoc base (spaced xs) (spaced ys) ∙ ap (λ (x : List ℕ). base ++ x) (sym (spaced-append xs ys))
 
 digits-value : (k n : ℕ) → n < 10 ^ k → valueOf (digits k n) ≡ n
 digits-value zero n h = omega (arith, pow-zero 10)

@@ -7,12 +7,12 @@ ghost use Prim.Native.Nat.{_+_, _*_, _≤_};
 ghost use lib.ListN.{length};
 ghost use Rattle.input.specs.Text.{ascii, decimal, spaced};
 ghost use Rattle.input.specs.Line.{textOf, reportLine};
-ghost use Rattle.input.specs.Input.{bytesIn};
+ghost use Rattle.input.specs.Input.{lineOf, Followed};
 
 // Some text behind a line's.
 fn put(line: OutputLine, text: &[u8]) -> OutputLine
     requires { ⌜ line .len + length (now text) ≤ 256 ⌝ }
-    ensures { λ r. ⌜ (bytesIn r ≡ bytesIn line ++ now (text .entry)) × (r .len ≡ line .len + length (now (text .entry))) ⌝ }
+    ensures { λ r. ⌜ Followed line (now (text .entry)) r × (r .len ≡ line .len + length (now (text .entry))) ⌝ }
 {
     let mut bytes = line.bytes;
     let at = line.len;
@@ -24,7 +24,7 @@ fn put(line: OutputLine, text: &[u8]) -> OutputLine
 // A number in decimal.
 fn put_decimal(line: OutputLine, n: u64) -> OutputLine
     requires { ⌜ line .len + 20 ≤ 256 ⌝ }
-    ensures { λ r. ⌜ (bytesIn r ≡ bytesIn line ++ decimal n) × (r .len ≤ line .len + 20) ⌝ }
+    ensures { λ r. ⌜ Followed line (decimal n) r × (r .len ≤ line .len + 20) ⌝ }
 {
     let mut text = [0u8; 20];
     let count = io::decimal(n, &mut text);
@@ -34,7 +34,7 @@ fn put_decimal(line: OutputLine, n: u64) -> OutputLine
 // A number with a space before it.
 fn put_number(line: OutputLine, n: u64) -> OutputLine
     requires { ⌜ line .len + 21 ≤ 256 ⌝ }
-    ensures { λ r. ⌜ (bytesIn r ≡ bytesIn line ++ spaced (n ∷ [])) × (r .len ≤ line .len + 21) ⌝ }
+    ensures { λ r. ⌜ Followed line (spaced (n ∷ [])) r × (r .len ≤ line .len + 21) ⌝ }
 {
     put_decimal(put(line, b" "), n)
 }
@@ -42,7 +42,7 @@ fn put_number(line: OutputLine, n: u64) -> OutputLine
 // Numbers, each with a space before it.
 fn put_numbers(line: OutputLine, numbers: &[u64]) -> OutputLine
     requires { ⌜ line .len + 21 * length (now numbers) ≤ 256 ⌝ }
-    ensures { λ r. ⌜ (bytesIn r ≡ bytesIn line ++ spaced (now (numbers .entry))) × (r .len ≤ line .len + 21 * length (now (numbers .entry))) ⌝ }
+    ensures { λ r. ⌜ Followed line (spaced (now (numbers .entry))) r × (r .len ≤ line .len + 21 * length (now (numbers .entry))) ⌝ }
 {
     let mut next = line;
     let mut i = 0;
@@ -55,7 +55,7 @@ fn put_numbers(line: OutputLine, numbers: &[u64]) -> OutputLine
 
 // An empty line.
 fn empty() -> OutputLine
-    ensures { λ r. ⌜ (bytesIn r ≡ []) × (r .len ≡ 0) ⌝ }
+    ensures { λ r. ⌜ (r ≡ lineOf []) × (r .len ≡ 0) ⌝ }
 {
     let bytes = [0u8; 256];
     OutputLine { bytes, len: 0 }
@@ -63,14 +63,14 @@ fn empty() -> OutputLine
 
 // `refuse`, number and place.
 fn refused(number: u8, place: u64) -> OutputLine
-    ensures { λ r. ⌜ (bytesIn r ≡ ascii "refuse" ++ spaced (number ∷ place ∷ [])) × (r .len ≤ 48) ⌝ }
+    ensures { λ r. ⌜ (r ≡ lineOf (ascii "refuse" ++ spaced (number ∷ place ∷ []))) × (r .len ≤ 48) ⌝ }
 {
     let numbers = [number as u64, place];
     put_numbers(put(empty(), b"refuse"), &numbers)
 }
 
 fn text_of(report: Report) -> OutputLine
-    ensures { λ r. ⌜ (bytesIn r ≡ textOf report) × (r .len ≤ 255) ⌝ }
+    ensures { λ r. ⌜ (r ≡ lineOf (textOf report)) × (r .len ≤ 255) ⌝ }
 {
     match report {
         Report::Accepted(reported) => {
@@ -87,7 +87,7 @@ fn text_of(report: Report) -> OutputLine
 
 // The line of a report.
 pub(crate) fn line_for(report: Report) -> OutputLine
-    ensures { λ r. ⌜ (bytesIn r ≡ reportLine report) × (r .len ≤ 256) ⌝ }
+    ensures { λ r. ⌜ (r ≡ lineOf (reportLine report)) × (r .len ≤ 256) ⌝ }
 {
     put(text_of(report), b"\n")
 }

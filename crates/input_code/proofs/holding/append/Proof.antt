@@ -28,7 +28,7 @@ returns c =
     let len : length (a .bytes) ≡ 32 = s .good .0 .1 .0 .1 in
     let room = 32 - a .from in
     let part = c .before .copy .last .1 .0 in (
-      copied-behind (a .from) room (a .bytes) part (a .piece .now) _ (omega arith) (c .before .copy .ensures .1),
+      rw len at (copied-behind (a .from) (a .bytes) part (a .piece .now) (omega (arith, s .pre)) (rw len (c .before .copy .ensures .1))),
       same-len-mid (a .from) room (a .bytes) part (c .before .copy .kept .1 .0) ∙ len,
     )
 

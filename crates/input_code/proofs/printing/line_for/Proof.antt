@@ -1,9 +1,6 @@
 -- `line_for`: the line of a report.
-use mathlib.Core.List.{List, _++_}
-use mathlib.Core.Path.{_∙_, ap}
-use Prim.Native.Nat.{ℕ}
 use native.Mathlib.Omega.{arith}
-use Rattle.input.specs.Text.{ascii}
+use Rattle.input.specs.Line.{textOf}
 use borrow.Author.Needs.{needs}
 use Rattle.input_code.proofs.printing.line_for.Statement.{statement}
 use Rattle.input_code.proofs.printing.line_for.Tie as tie
@@ -20,7 +17,7 @@ put-requires c κs = search needs
 returns : tie.Need-returns
 returns c =
     let t = c .before .before .text-of .ensures in
-    (c .put .ensures .0 ∙ ap (λ (x : List ℕ). x ++ ascii "\n") (t .0), omega (arith, c .put .ensures .1, t .1))
+    (c .put .ensures .0 (textOf (c .before .before .before .args .report)) (t .0), omega (arith, c .put .ensures .1, t .1))
 
 pub line-for-spec : {M : Type 1} → statement M
 line-for-spec = tie.close (tie.spec text-of-requires slice-aggregate-put put-requires returns)

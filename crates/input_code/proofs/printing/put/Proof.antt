@@ -1,10 +1,10 @@
 -- `put`: some text behind a line's.
 use mathlib.Core.Path.{_≡_, refl, sym, _∙_}
-use Prim.Native.Nat.{ℕ, _-_}
+use Prim.Native.Nat.{ℕ}
 use native.Mathlib.Omega.{arith}
 use borrow.Author.Needs.{needs}
 use lib.ListN.{length, length-map}
-use Rattle.input_code.proofs.Copying.{copied-behind}
+use Rattle.input_code.proofs.Lines.{put-behind}
 use Rattle.input_code.proofs.printing.put.Statement.{statement}
 use Rattle.input_code.proofs.printing.put.Tie as tie
 
@@ -30,8 +30,7 @@ returns : tie.Need-returns
 returns c =
     let s = c .before .before .before .before .before in
     let a = s .args in
-    let len = bytes-length s in
-    (copied-behind (a .line .len) (256 - a .line .len) (a .line .bytes) (c .before .copy .last .1 .0) (a .text .now) _ (omega arith) (c .before .copy .ensures .1), refl)
+    (λ t e. put-behind (a .line) t (a .text .now) (c .before .copy .last .1 .0) (bytes-length s) (s .pre) (c .before .copy .ensures .1) e, refl)
 
 pub put-spec : {M : Type 1} → statement M
 put-spec =

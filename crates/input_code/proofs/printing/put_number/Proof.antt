@@ -4,7 +4,7 @@ use mathlib.Core.Path.{sym, _∙_, ap}
 use native.Mathlib.Omega.{arith}
 use Prim.Native.Nat.{ℕ}
 use Rattle.input.specs.Text.{decimal}
-use Rattle.input.specs.Input.{bytesIn}
+use Rattle.input.specs.Input.{lineOf}
 use borrow.Author.Needs.{needs}
 use Rattle.input_code.proofs.printing.put_number.Statement.{statement}
 use Rattle.input_code.proofs.printing.put_number.Tie as tie
@@ -21,10 +21,9 @@ put-decimal-requires c κs = search needs
 returns : tie.Need-returns
 returns c =
     let a = c .before .before .before .args in (
-      c .put-decimal .ensures .0
-          ∙ ap (λ (x : List ℕ). x ++ decimal (a .n)) (c .before .put .ensures .0)
-          ∙ append-assoc (bytesIn (a .line)) (32 ∷ []) (decimal (a .n))
-          ∙ ap (λ (x : List ℕ). bytesIn (a .line) ++ (32 ∷ x)) (sym (append-nil (decimal (a .n)))),
+      λ t e.
+          c .put-decimal .ensures .0 (t ++ (32 ∷ [])) (c .before .put .ensures .0 t e)
+          ∙ ap lineOf (append-assoc t (32 ∷ []) (decimal (a .n)) ∙ ap (λ (x : List ℕ). t ++ (32 ∷ x)) (sym (append-nil (decimal (a .n))))),
       omega (arith, c .put-decimal .ensures .1, c .before .put .ensures .1),
     )
 

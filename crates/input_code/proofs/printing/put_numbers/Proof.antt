@@ -8,20 +8,20 @@ use borrow.Author.Needs.{needs}
 use lib.ListN.{length, getD, take}
 use lib.Seq.{take-suc, take-length}
 use Rattle.input.specs.Text.{spaced}
-use Rattle.input.specs.Input.{bytesIn}
+use Rattle.input.specs.Input.{lineOf, Followed}
 use Rattle.input_code.proofs.Texts.{then-spaced}
 use Rattle.input_code.proofs.printing.put_numbers.Statement.{statement}
 use Rattle.input_code.proofs.printing.put_numbers.Tie as tie
 
 abbrev Inv-loop : tie.InvT-loop
 Inv-loop numbers next₀ i₀ next i =
-    (i ≤ length numbers) × (bytesIn next ≡ bytesIn next₀ ++ spaced (take i numbers)) × (next .len ≤ next₀ .len + 21 * i)
+    (i ≤ length numbers) × Followed next₀ (spaced (take i numbers)) next × (next .len ≤ next₀ .len + 21 * i)
 
 abbrev μ-loop : tie.MeasureT-loop
 μ-loop numbers next₀ i₀ next i = length numbers - i
 
 loop-holds : tie.Need-loop-holds Inv-loop μ-loop
-loop-holds c = (search needs, sym (append-nil (bytesIn (c .before .args .line))), omega arith)
+loop-holds c = (search needs, λ t e. e ∙ ap lineOf (sym (append-nil t)), omega arith)
 
 mul-put-number : tie.Need-mul-put-number Inv-loop μ-loop
 mul-put-number c = search needs
@@ -45,11 +45,12 @@ loop-again c =
     let l = c .before .before .before .loop in
     let a = c .before .before .before .before .before .args in
     let more = c .before .before .loop-test .taken in
-    let base = bytesIn (a .line) in
     let ns = a .numbers .now in (
       omega (arith, more),
-      then-spaced base (take (l .i) ns) (getD ns (l .i) 0 ∷ []) (l .inv .1) (c .put-number .ensures .0)
-          ∙ ap (λ (xs : List ℕ). base ++ spaced xs) (sym (take-suc ns (l .i) 0 more) ∙ ap (λ (n : ℕ). take n ns) (sym (add-one (l .i)))),
+      λ t e.
+          c .put-number .ensures .0 (t ++ spaced (take (l .i) ns)) (l .inv .1 t e)
+          ∙ ap lineOf (then-spaced t (take (l .i) ns) (getD ns (l .i) 0 ∷ []))
+          ∙ ap (λ (xs : List ℕ). lineOf (t ++ spaced xs)) (sym (take-suc ns (l .i) 0 more) ∙ ap (λ (n : ℕ). take n ns) (sym (add-one (l .i)))),
       omega (arith, l .inv .2, c .put-number .ensures .1),
     )
 
@@ -59,7 +60,7 @@ returns c =
     let a = c .before .before .before .args in
     let ns = a .numbers .now in
     let all : l .i ≡ length ns = omega (arith, l .inv .0, c .loop-test .left) in (
-      l .inv .1 ∙ ap (λ (xs : List ℕ). bytesIn (a .line) ++ spaced xs) (ap (λ (n : ℕ). take n ns) all ∙ take-length ns),
+      λ t e. l .inv .1 t e ∙ ap (λ (xs : List ℕ). lineOf (t ++ spaced xs)) (ap (λ (n : ℕ). take n ns) all ∙ take-length ns),
       omega (arith, l .inv .2, all),
     )
 

@@ -1,10 +1,7 @@
 -- `refused`: `refuse`, number and place.
-use mathlib.Core.List.{List, [], _∷_, _++_}
-use mathlib.Core.Path.{_≡_, _∙_, ap}
-use Prim.Native.Nat.{ℕ}
+use mathlib.Core.List.{[]}
 use native.Mathlib.Omega.{arith}
-use Rattle.input.specs.Text.{ascii, spaced}
-use Rattle.input.specs.Input.{bytesIn}
+use Rattle.input.specs.Text.{ascii}
 use borrow.Author.Needs.{needs}
 use Rattle.input_code.proofs.printing.refused.Statement.{statement}
 use Rattle.input_code.proofs.printing.refused.Tie as tie
@@ -27,10 +24,8 @@ put-numbers-requires c κs = search needs
 returns : tie.Need-returns
 returns c =
     let p = c .before .before .put in
-    let e = c .before .before .before .before .empty in
-    let a = c .before .before .before .before .before .args in
-    let word : bytesIn (p .result) ≡ ascii "refuse" = p .ensures .0 ∙ ap (λ (x : List ℕ). x ++ ascii "refuse") (e .ensures .0) in (
-      c .put-numbers .ensures .0 ∙ ap (λ (x : List ℕ). x ++ spaced (a .number ∷ a .place ∷ [])) word,
+    let e = c .before .before .before .before .empty in (
+      c .put-numbers .ensures .0 (ascii "refuse") (p .ensures .0 [] (e .ensures .0)),
       omega (arith, c .put-numbers .ensures .1, p .ensures .1, e .ensures .1),
     )
 

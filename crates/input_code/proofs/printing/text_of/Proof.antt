@@ -1,13 +1,12 @@
 -- `text_of`: the text of each case of a report.
 use mathlib.Core.List.{List, [], _∷_, _++_}
-use mathlib.Core.Path.{_≡_, sym, _∙_, ap, ap₂}
+use mathlib.Core.Path.{sym, _∙_, ap}
 use Prim.Native.Nat.{ℕ}
 use native.Mathlib.Omega.{arith}
 use lib.ListN.{length}
-use Rattle.batch.specs.Reports.{valuesOf}
 use Rattle.input.specs.Text.{ascii, spaced}
 use Rattle.input.specs.Line.{textOf}
-use Rattle.input.specs.Input.{bytesIn}
+use Rattle.input.specs.Input.{lineOf}
 use Rattle.input_code.proofs.Texts.{then-spaced}
 use borrow.Author.Needs.{needs}
 use Rattle.input_code.proofs.printing.text_of.Statement.{statement}
@@ -60,9 +59,10 @@ returns c =
     let p = c .before .before .put in
     let e = c .before .before .before .before .empty in
     let v = c .before .before .before .before .before in
-    let g = v .before .before .report .given in
-    let word : bytesIn (p .result) ≡ ascii "accept" = p .ensures .0 ∙ ap (λ (x : List ℕ). x ++ ascii "accept") (e .ensures .0) in (
-      c .put-numbers .ensures .0 ∙ ap₂ (λ (x y : List ℕ). x ++ spaced y) word (v .values-of .ensures) ∙ ap textOf (sym (g .1)),
+    let g = v .before .before .report .given in (
+      c .put-numbers .ensures .0 (ascii "accept") (p .ensures .0 [] (e .ensures .0))
+          ∙ ap (λ (y : List ℕ). lineOf (ascii "accept" ++ spaced y)) (v .values-of .ensures)
+          ∙ ap (λ x. lineOf (textOf x)) (sym (g .1)),
       omega (arith, c .put-numbers .ensures .1, p .ensures .1, e .ensures .1, ap length (v .values-of .ensures)),
     )
 
@@ -70,15 +70,17 @@ returns-2 : tie.Need-returns-2
 returns-2 c =
     let r = c .before .before .refused in
     let v = c .before .before .before in
-    let g = v .before .before .report2 .given in (
-      then-spaced (ascii "refuse") (g .0 .0 ∷ g .0 .1 .0 ∷ []) (valuesOf (g .0 .1 .1 .0)) (r .ensures .0)
-          (c .put-numbers2 .ensures .0 ∙ ap (λ (y : List ℕ). bytesIn (r .result) ++ spaced y) (v .values-of2 .ensures))
-          ∙ ap textOf (sym (g .1)),
+    let g = v .before .before .report2 .given in
+    let two = g .0 .0 ∷ g .0 .1 .0 ∷ [] in (
+      c .put-numbers2 .ensures .0 (ascii "refuse" ++ spaced two) (r .ensures .0)
+          ∙ ap lineOf (then-spaced (ascii "refuse") two (v .values-of2 .result))
+          ∙ ap (λ (y : List ℕ). lineOf (ascii "refuse" ++ spaced (two ++ y))) (v .values-of2 .ensures)
+          ∙ ap (λ x. lineOf (textOf x)) (sym (g .1)),
       omega (arith, c .put-numbers2 .ensures .1, r .ensures .1, ap length (v .values-of2 .ensures)),
     )
 
 returns-3 : tie.Need-returns-3
-returns-3 c = (c .refused2 .ensures .0 ∙ ap textOf (sym (c .before .before .report3 .given .1)), omega (arith, c .refused2 .ensures .1))
+returns-3 c = (c .refused2 .ensures .0 ∙ ap (λ x. lineOf (textOf x)) (sym (c .before .before .report3 .given .1)), omega (arith, c .refused2 .ensures .1))
 
 pub text-of-spec : {M : Type 1} → statement M
 text-of-spec =
