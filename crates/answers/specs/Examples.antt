@@ -4,6 +4,7 @@ use Prim.Native.Nat.{ℕ}
 use mathlib.Core.Bool.{Bool, true, false, cond, _&&_, _||_}
 use mathlib.Core.List.{List, [], _∷_, map}
 use lib.Dec.{eqb}
+use lib.ListN.{set}
 use Rattle.answers.specs.Answers.{Rule}
 
 -- What is judged, and the number and the place of each rule that it breaks.
@@ -17,6 +18,13 @@ keeping a = record { given = a; breaks = [] }
 
 abbrev pub breaking : {A : Type 0} → ℕ → ℕ → A → Example A
 breaking n p a = record { given = a; breaks = (n, p) ∷ [] }
+
+-- Words or bytes of which the i-th is each of these, one at a time: all keep every rule, or all break one and no other.
+abbrev pub keepingEach : List ℕ → ℕ → List ℕ → List (Example (List ℕ))
+keepingEach ws i others = map (λ w. keeping (set ws i w)) others
+
+abbrev pub breakingEach : ℕ → ℕ → List ℕ → ℕ → List ℕ → List (Example (List ℕ))
+breakingEach n p ws i others = map (λ w. breaking n p (set ws i w)) others
 
 -- The number and the place of each rule of a table that does not hold.
 abbrev pub brokenIn : List Rule → List (ℕ × ℕ)

@@ -6,7 +6,7 @@ use mathlib.Core.List.{List, [], _∷_, _++_, map}
 use lib.IntN.{ℤ, pos, negℤ}
 use lib.ListN.{set}
 use Rattle.prediction.specs.declared.Vector.{Vector}
-use Rattle.answers.specs.Examples.{Example, keeping, breaking}
+use Rattle.answers.specs.Examples.{Example, keeping, keepingEach, breakingEach}
 use Rattle.headers.specs.Examples.{Reading, reading, turnedIn}
 use Rattle.macroblock.specs.declared.Prediction.the-variants.{Forward, Backward, Both}
 use Rattle.macroblock.specs.declared.Case.{Case}
@@ -113,13 +113,6 @@ macroblockReadings =
     ∷ reading (set intraCommand 4 0x08000001) (flagsSaid (flagged false false false false true false))
     ∷ reading (set intraCommand 4 0x02000001) (flagsSaid (flagged false false false false false true))
     ∷ []
-
--- A command whose i-th word is each of these, one at a time: it keeps every rule, or breaks the one with a number and a place.
-abbrev pub keepingEach : List ℕ → ℕ → List ℕ → List (Example (List ℕ))
-keepingEach c i ws = map (λ w. keeping (set c i w)) ws
-
-abbrev pub breakingEach : ℕ → ℕ → List ℕ → ℕ → List ℕ → List (Example (List ℕ))
-breakingEach n p c i ws = map (λ w. breaking n p (set c i w)) ws
 
 -- Word 1: "31:16 carried; 15, 14, 7:3 zero; .. 1:0 zero"; "Intra: type 1Ah": each bit of it off, and inter's types; "Inter: 1 forward,
 -- 2 backward, 3 both": types 0, 4, 5, 8, 10h, 1Ah and 1Fh of one that is not intra

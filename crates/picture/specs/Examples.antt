@@ -5,21 +5,18 @@ use mathlib.Core.List.{List, [], _∷_, _++_, map}
 use lib.ListN.{set, replicate}
 use Rattle.prediction.specs.declared.Grid.{Grid}
 use Rattle.answers.specs.Answers.{Rule}
-use Rattle.answers.specs.Examples.{Example, keeping, breaking}
+use Rattle.answers.specs.Examples.{Example, keeping, breaking, breakingEach}
 use Rattle.headers.specs.Examples.{Reading, reading, turnedIn}
 use Rattle.picture.specs.Pictures.{codes, pictureRules}
 use Rattle.picture.specs.declared.Frame.{Frame}
 use Rattle.picture.specs.declared.Picture.{Picture}
 
--- SURFACE. P1's; one of 1920 by 1080; and P1's with another word in place of its i-th.
+-- SURFACE. P1's, and one of 1920 by 1080.
 abbrev pub p1Surface : List ℕ
 p1Surface = 0x70010004 ∷ 0 ∷ 0x003C00F0 ∷ 0x480003FB ∷ 0x10 ∷ 0 ∷ []
 
 abbrev pub hdSurface : List ℕ
 hdSurface = 0x70010004 ∷ 0 ∷ 0x10DC77F0 ∷ 0x48003BFB ∷ 0x440 ∷ 0 ∷ []
-
-abbrev pub surfaceWith : ℕ → ℕ → List ℕ
-surfaceWith i w = set p1Surface i w
 
 -- Width, height, pitch, C.
 abbrev pub frame : ℕ → ℕ → ℕ → ℕ → Frame
@@ -31,12 +28,12 @@ unfoldable pub surfaceReadings : List (Reading Frame)
 surfaceReadings =
     reading p1Surface (frame 16 16 128 16)
     ∷ reading hdSurface (frame 1920 1080 1920 1088)
-    ∷ reading (surfaceWith 2 0x0003FFF0) (frame 16384 1 128 16)
-    ∷ reading (surfaceWith 2 0xFFFC0000) (frame 1 16384 128 16)
-    ∷ reading (surfaceWith 3 0x000FFFF8) (frame 16 16 131072 16)
-    ∷ reading (surfaceWith 3 0xFFF00007) (frame 16 16 1 16)
-    ∷ reading (surfaceWith 4 0x00007FFF) (frame 16 16 128 32767)
-    ∷ reading (surfaceWith 4 0xFFFF8000) (frame 16 16 128 0)
+    ∷ reading (set p1Surface 2 0x0003FFF0) (frame 16384 1 128 16)
+    ∷ reading (set p1Surface 2 0xFFFC0000) (frame 1 16384 128 16)
+    ∷ reading (set p1Surface 3 0x000FFFF8) (frame 16 16 131072 16)
+    ∷ reading (set p1Surface 3 0xFFF00007) (frame 16 16 1 16)
+    ∷ reading (set p1Surface 4 0x00007FFF) (frame 16 16 128 32767)
+    ∷ reading (set p1Surface 4 0xFFFF8000) (frame 16 16 128 0)
     ∷ []
 
 -- Kept: P1's; 1920 by 1080; the greatest and the least of every field, "5: unread"; a pitch of 256.
@@ -46,7 +43,7 @@ surfacesKept =
     ∷ hdSurface
     ∷ (0x70010004 ∷ 0 ∷ 0xFFFFFFF0 ∷ 0x480FFFFB ∷ 0x7FFF ∷ 0xFFFFFFFF ∷ [])
     ∷ (0x70010004 ∷ 0 ∷ 0 ∷ 0x480003FB ∷ 0 ∷ 0 ∷ [])
-    ∷ surfaceWith 3 0x480007FB
+    ∷ set p1Surface 3 0x480007FB
     ∷ []
 
 -- "1: zero"; "2: .. 3:0 zero"; "3: 31:28 = 4, 27 = 1, 26:20 zero, .. bit 2 zero, 1:0 = 3"; a pitch of 127, 129 and 64: "the pitch is a
@@ -54,11 +51,11 @@ surfacesKept =
 unfoldable pub surfaceExamples : List (Example (List ℕ))
 surfaceExamples =
     map keeping surfacesKept
-    ++ map (λ w. breaking 4 1 (surfaceWith 1 w)) (turnedIn 0 31 0)
-    ++ map (λ w. breaking 4 2 (surfaceWith 2 w)) (turnedIn 0x003C00F0 3 0)
-    ++ map (λ w. breaking 4 3 (surfaceWith 3 w)) (turnedIn 0x480003FB 31 20 ++ turnedIn 0x480003FB 2 0)
-    ++ map (λ w. breaking 5 3 (surfaceWith 3 w)) (0x480003F3 ∷ 0x48000403 ∷ 0x480001FB ∷ [])
-    ++ map (λ w. breaking 4 4 (surfaceWith 4 w)) (turnedIn 0x10 31 15)
+    ++ breakingEach 4 1 p1Surface 1 (turnedIn 0 31 0)
+    ++ breakingEach 4 2 p1Surface 2 (turnedIn 0x003C00F0 3 0)
+    ++ breakingEach 4 3 p1Surface 3 (turnedIn 0x480003FB 31 20 ++ turnedIn 0x480003FB 2 0)
+    ++ breakingEach 5 3 p1Surface 3 (0x480003F3 ∷ 0x48000403 ∷ 0x480001FB ∷ [])
+    ++ breakingEach 4 4 p1Surface 4 (turnedIn 0x10 31 15)
     ++ record { given = 0x70010004 ∷ 0 ∷ 0x003C00F0 ∷ 0x480001FB ∷ 0x8010 ∷ 0 ∷ []; breaks = (5, 3) ∷ (4, 4) ∷ [] }
     ∷ record { given = []; breaks = (4, 3) ∷ (5, 3) ∷ [] }
     ∷ []

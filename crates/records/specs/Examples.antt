@@ -3,7 +3,7 @@
 use Prim.Native.Nat.{ℕ}
 use mathlib.Core.List.{List, [], _∷_, _++_, map}
 use lib.ListN.{set, take, replicate}
-use Rattle.answers.specs.Examples.{Example, keeping, breaking}
+use Rattle.answers.specs.Examples.{Example, keeping, breaking, keepingEach, breakingEach}
 use Rattle.answers.specs.declared.Answer.{Answer}
 use Rattle.answers.specs.declared.Answer.the-variants.{Accepted, Refused}
 use Rattle.headers.specs.Examples.{Reading, reading, upwards}
@@ -53,12 +53,9 @@ recordReadings =
     ∷ reading (set intraCommand 4 0x02000001) (set p1Record 12 32)
     ∷ []
 
--- A record whose i-th byte is each of these, one at a time: it is legal, or that byte is bad. "15 record not legal: its first bad byte".
-abbrev pub legalEach : List ℕ → ℕ → List ℕ → List (Example (List ℕ))
-legalEach r i bs = map (λ b. keeping (set r i b)) bs
-
+-- A record whose i-th byte is each of these, one at a time: that byte is bad. "15 record not legal: its first bad byte".
 abbrev pub badEach : List ℕ → ℕ → List ℕ → List (Example (List ℕ))
-badEach r i bs = map (λ b. breaking 15 i (set r i b)) bs
+badEach r i bs = breakingEach 15 i r i bs
 
 -- A record in which the k bytes from byte i on are not zero, one at a time: bits 0 and 7 of each.
 abbrev pub legalFrom : List ℕ → ℕ → ℕ → List (Example (List ℕ))
@@ -76,10 +73,10 @@ byteExamples =
     ++ badEach p1Record 6 (4 ∷ 5 ∷ 8 ∷ 16 ∷ 32 ∷ 64 ∷ 128 ∷ 255 ∷ [])
     ++ badEach p1Record 7 (2 ∷ 3 ∷ 128 ∷ 255 ∷ [])
     ++ badEach (interRecord 1 forwardBytes) 7 (2 ∷ 3 ∷ 128 ∷ 255 ∷ [])
-    ++ legalEach p1Record 11 (2 ∷ 16 ∷ 31 ∷ [])
+    ++ keepingEach p1Record 11 (2 ∷ 16 ∷ 31 ∷ [])
     ++ badEach p1Record 11 (0 ∷ 32 ∷ 33 ∷ 64 ∷ 128 ∷ 255 ∷ [])
     ++ badEach (interRecord 2 backwardBytes) 11 (0 ∷ 32 ∷ [])
-    ++ legalEach p1Record 12 (0 ∷ 63 ∷ [])
+    ++ keepingEach p1Record 12 (0 ∷ 63 ∷ [])
     ++ badEach p1Record 12 (64 ∷ 65 ∷ 128 ∷ 255 ∷ [])
     ++ badFrom p1Record 13 3
     ++ badFrom (interRecord 3 bothBytes) 13 3
@@ -89,12 +86,12 @@ byteExamples =
 unfoldable pub clashExamples : List (Example (List ℕ))
 clashExamples =
     badEach p1Record 8 (0 ∷ 31 ∷ 47 ∷ 55 ∷ 59 ∷ 61 ∷ 62 ∷ 64 ∷ 127 ∷ 255 ∷ [])
-    ++ legalEach (interRecord 1 forwardBytes) 8 (0 ∷ 1 ∷ 32 ∷ 63 ∷ [])
+    ++ keepingEach (interRecord 1 forwardBytes) 8 (0 ∷ 1 ∷ 32 ∷ 63 ∷ [])
     ++ badEach (interRecord 1 forwardBytes) 8 (64 ∷ 128 ∷ 255 ∷ [])
     ++ badEach (skippedRecord 1 forwardBytes) 8 (1 ∷ 2 ∷ 4 ∷ 8 ∷ 16 ∷ 32 ∷ 64 ∷ [])
     ++ badEach (skippedRecord 2 backwardBytes) 8 (1 ∷ 32 ∷ [])
     ++ badEach (skippedRecord 3 bothBytes) 8 (1 ∷ 32 ∷ [])
-    ++ legalEach (skippedRecord 1 forwardBytes) 12 (0 ∷ 4 ∷ 16 ∷ 32 ∷ 60 ∷ [])
+    ++ keepingEach (skippedRecord 1 forwardBytes) 12 (0 ∷ 4 ∷ 16 ∷ 32 ∷ 60 ∷ [])
     ++ badEach (skippedRecord 1 forwardBytes) 12 (1 ∷ 2 ∷ 3 ∷ 64 ∷ [])
     ++ badEach (skippedRecord 2 backwardBytes) 12 (1 ∷ 2 ∷ [])
     ++ badEach (skippedRecord 3 bothBytes) 12 (1 ∷ 2 ∷ [])
