@@ -24,11 +24,10 @@ REASONS = 'rust/hromulice/src/reason.rs'
 SIZES = 'rust/hromulice/src/lib.rs'
 CARGO = 'rust/hromulice/Cargo.toml'
 EXAMPLE = 'examples/c/check_batch.c'
-EXPORTS = ['handing', 'single', 'summaries', 'version', 'whole']
+EXPORTS = 'crates/hromulice/src'
 STRUCTS = ['crates/interface/src/lib.rt', 'crates/batch/src/lib.rt']
 MEMORY = 'crates/memory/src/lib.rt'
-FILES = [HEADER, CRATE, COMPARISON, REASONS, SIZES, CARGO, EXAMPLE, *STRUCTS, MEMORY, 'crates/hromulice/src/lib.rt',
-         *(f'crates/hromulice/src/{name}.rt' for name in EXPORTS)]
+FILES = [HEADER, CRATE, COMPARISON, REASONS, SIZES, CARGO, EXAMPLE, *STRUCTS, MEMORY]
 
 # C's types as Rust's. A struct of C is named by the word behind hromulice_.
 SCALARS = {'uint8_t': 'u8', 'uint16_t': 'u16', 'uint32_t': 'u32', 'uint64_t': 'u64', 'size_t': 'usize'}
@@ -43,8 +42,9 @@ REASON_NAMES = {
     'BUFFER_SHORT': 'BufferTooShort', 'ROOM_SHORT': 'RoomTooSmall', 'RECORD': 'RecordNotLegal', 'TOO_MANY_WORDS': 'TooManyWords',
 }
 APART = {'ACCEPTED': 0, 'NO_LENGTHS': 16}
-# What the header's preprocessor lines may define and include; each name once, but for the attribute and the assertion.
-DEFINED = {'H', 'VERSION', 'VERSION_MAJOR', 'VERSION_MINOR', 'VERSION_PATCH', 'VERSION_TEXT', 'STATE_WORDS', 'MUST_USE', 'LAYOUT'}
+# What the header's preprocessor lines may define, each once, by compiler, and include.
+DEFINED = ['H', 'STATE_WORDS', 'VERSION', 'VERSION_MAJOR', 'VERSION_MINOR', 'VERSION_PATCH', 'VERSION_TEXT']
+BY_COMPILER = {'MUST_USE', 'LAYOUT'}
 INCLUDED = {'<stddef.h>', '<stdint.h>'}
 
 
@@ -99,7 +99,9 @@ def header_directives(text):
     """The constants of the header; nothing else may be defined or included."""
     defines = re.findall(r'^#define HROMULICE_(\w+)(?:\([^)]*\))?(.*)$', text, re.M)
     lines = re.findall(r'^[ \t]*#[ \t]*(\w+)', text, re.M)
-    need(lines.count('define') == len(defines) and {name for name, _ in defines} == DEFINED, f'{HEADER}: it defines other names')
+    need(lines.count('define') == len(defines), f'{HEADER}: it defines other names')
+    need(sorted(name for name, _ in defines if name not in BY_COMPILER) == DEFINED, f'{HEADER}: it defines other names, or one twice')
+    need(set(re.findall(r'^#undef (.*)$', text, re.M)) == {'HROMULICE_LAYOUT'}, f'{HEADER}: it has another #undef')
     need(set(re.findall(r'^#include (\S+)$', text, re.M)) == INCLUDED and lines.count('include') == len(INCLUDED), f'{HEADER}: it includes others')
     unknown = set(lines) - {'define', 'undef', 'include', 'if', 'ifdef', 'ifndef', 'elif', 'else', 'endif', 'error'}
     need(not unknown, f'{HEADER}: it has a line #{unknown}')
@@ -121,6 +123,7 @@ def read_header(root):
         numbers[m[1]] = int(m[2])
     structs, rest = take(r'\btypedef struct \{(.*?)\} hromulice_(\w+);', rest)
     fields = {name: [c_declared(field, 'HROMULICE_STATE_WORDS') for field in body.split(';')[:-1]] for body, name in structs}
+    need(len(fields) == len(structs), f'{HEADER}: a struct stands there twice')
     _, rest = take(r'\bHROMULICE_LAYOUT\([^;]*\);()', rest)
     functions, rest = take(r'(?:\bHROMULICE_MUST_USE\s+)?\b(\w[\w ]*?\b)(hromulice_\w+)\(([^)]*)\);', rest)
     need(spaced(rest) == 'extern "C" { }', f'{HEADER}: {spaced(rest)}')
@@ -214,7 +217,7 @@ def compare_versions(header, root):
     same(constants['VERSION_TEXT'], f'"{version}"', f'{HEADER}: the text of the version')
     need(re.search(rf'^ \* {re.escape(version)}: ', header['text'], re.M), f'{HEADER}: its history does not tell of {version}')
     same(only(r'^version = "(.*)"$', (root / CARGO).read_text(), f'{CARGO}: the version'), version, f'{CARGO}: the version')
-    own = (root / 'crates/hromulice/src/version.rt').read_text()
+    own = (root / EXPORTS / 'version.rt').read_text()
     same([only(rf'^const {part}: u32 = (\d+);$', own, f'version.rt: {part}') for part in ('MAJOR', 'MINOR', 'PATCH')], parts, 'version.rt')
 
 
@@ -236,12 +239,10 @@ def compare_library(header, root):
     words = only(r'^pub const WORDS: usize = (\d+);$', (root / MEMORY).read_text(), f'{MEMORY}: WORDS')
     same(words, header['constants']['STATE_WORDS'], f'{MEMORY}: WORDS')
     functions = {}
-    modules = set(re.findall(r'^mod (\w+);$', (root / 'crates/hromulice/src/lib.rt').read_text(), re.M))
-    same(modules, set(EXPORTS), 'the modules of the library, where this script has')
-    for module in EXPORTS:
-        text = without_comments((root / f'crates/hromulice/src/{module}.rt').read_text())
+    for file in sorted((root / EXPORTS).glob('**/*.rt')):
+        text = without_comments(file.read_text())
         found = re.findall(r'^#\[no_mangle\]\npub extern "C" fn (\w+)\((.*)\)(?: -> (\w+))?$', text, re.M)
-        need(len(found) == text.count('extern "C"') == text.count('no_mangle'), f'{module}.rt: an exported function is not read')
+        need(len(found) == text.count('extern "C"') == text.count('no_mangle'), f'{file.name}: an exported function is not read')
         for name, arguments, answer in found:
             given = re.findall(r'(\w+): ([^,]+)', arguments)
             functions[name] = (OWN_STRUCTS.get(answer, answer) or None, [c for argument, kind in given for c in lent(kind, argument)])
@@ -285,6 +286,8 @@ WRONG = [
     ('a function is missing', HEADER, r'void hromulice_begin\(.*?\);', ''),
     ('a function that is not there', HEADER, r'(void hromulice_begin\()', r'void hromulice_end(hromulice_state *state);\n\1'),
     ('a name for another function', HEADER, r'(#ifdef __cplusplus\nextern)', r'#define hromulice_check hromulice_decode\n\1'),
+    ('two sizes of a state', HEADER, r'(#define HROMULICE_STATE_WORDS )', r'#define HROMULICE_STATE_WORDS 50\n#undef HROMULICE_STATE_WORDS\n\1'),
+    ('a struct twice', HEADER, r'(typedef struct \{\n *uint8_t)', r'typedef struct { uint8_t number; } hromulice_report;\n\1'),
     ('fields packed', HEADER, r'(typedef struct \{\n *uint8_t)', r'#pragma pack(1)\n\1'),
     ('a type named anew', HEADER, r'(typedef struct \{\n *uint8_t)', r'typedef uint32_t word;\n\1'),
     ('another version', HEADER, r'(VERSION_MINOR) (\d+)', r'\1 2\2'),
@@ -308,10 +311,10 @@ WRONG = [
     ('more words of a state', MEMORY, r'(WORDS: usize = )128', r'\g<1>129'),
     ('two fields exchanged', STRUCTS[1], r'(pub )source(: u64,\n *pub )reconstructed', r'\1reconstructed\2source'),
     ('a field narrower', STRUCTS[0], r'place: u64', 'place: u32'),
-    ('a function is not exported', 'crates/hromulice/src/single.rt', r'#\[no_mangle\]\n', ''),
-    ('an argument of another type', 'crates/hromulice/src/whole.rt', r'words: &\[u32\]', 'words: &[u64]'),
-    ('an argument that is written', 'crates/hromulice/src/handing.rt', r'(report_of\(memory: &)', r'\1mut '),
-    ('another version', 'crates/hromulice/src/version.rt', r'(MAJOR: u32 = )', r'\g<1>1'),
+    ('a function is not exported', f'{EXPORTS}/single.rt', r'#\[no_mangle\]\n', ''),
+    ('an argument of another type', f'{EXPORTS}/whole.rt', r'words: &\[u32\]', 'words: &[u64]'),
+    ('an argument that is written', f'{EXPORTS}/handing.rt', r'(report_of\(memory: &)', r'\1mut '),
+    ('another version', f'{EXPORTS}/version.rt', r'(MAJOR: u32 = )', r'\g<1>1'),
 ]
 
 
@@ -320,6 +323,7 @@ def self_test(root):
     for what, path, pattern, instead in WRONG:
         with tempfile.TemporaryDirectory() as folder:
             copy = pathlib.Path(folder)
+            shutil.copytree(root / EXPORTS, copy / EXPORTS)
             for name in FILES:
                 (copy / name).parent.mkdir(parents=True, exist_ok=True)
                 shutil.copy(root / name, copy / name)
