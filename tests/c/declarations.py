@@ -111,7 +111,7 @@ def header_directives(text):
 
 def read_header(root):
     whole = (root / HEADER).read_text()
-    text, constants = re.sub(r'/\*.*?\*/', ' ', whole, flags=re.S), None
+    text = re.sub(r'/\*.*?\*/', ' ', whole, flags=re.S)
     constants = header_directives(text)
     rest = re.sub(r'^[ \t]*#.*$', '', text, flags=re.M)
     enums, rest = take(r'\benum \{(.*?)\};', rest)
