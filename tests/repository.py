@@ -12,7 +12,8 @@ tests/repository_test.py tries each on a small tree.
 - What a cited law states is declared in specs/, worked examples apart, and each file of specs/ says whether it has to be believed or which law
   proves it.
 - Laws that a crate of definitions has for its functions alone (`proofs/Lib.antt`) are cited by nobody else.
-- No law above `prediction` unfolds one of its definitions, closed statements in the files of worked examples apart; its code may.
+- No law above `prediction` unfolds one of its definitions, closed statements in the files of worked examples apart; its code may. Of its
+  abbreviations, which unfold everywhere, only those that are listed are used above.
 - No function between a vector word and its components divides, takes a remainder or multiplies.
 - No table of a document is broken, and nothing names a path of one machine.
 """
@@ -34,10 +35,15 @@ def main(root):
         'files of definitions': claims.check_specs(root, faults),
         'files of laws for functions alone': laws.check_borders(root, faults),
         'laws and proofs above prediction': laws.check_unfolding(root, faults),
+        'abbreviations of prediction': laws.check_open(root, faults),
         'functions between a word and its components': contracts.check_halves(root, faults),
         'tables': documents.check_tables(root, faults),
         'files': documents.check_paths(root, faults),
     }
+    return report(counts, faults)
+
+
+def report(counts, faults):
     for what, count in counts.items():
         if count == 0:
             faults.append(f'nothing was checked: no {what} were found')

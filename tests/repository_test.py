@@ -1,5 +1,7 @@
 #!/usr/bin/env python3
 """Tries the checks of tests/repo/ on small trees that are made up here: one that passes, and those that have to be refused."""
+import contextlib
+import io
 import pathlib
 import subprocess
 import sys
@@ -7,6 +9,7 @@ import tempfile
 import unittest
 
 sys.dont_write_bytecode = True
+import repository
 from repo import antt, claims, contracts, documents, laws, refusals, text
 
 BASE = {
@@ -171,8 +174,9 @@ class Refusals(Tree):
     def test_law_that_is_only_unfit_in_the_second_line(self):
         unfit = '`twice-sum`: module `Rattle.one.specs.Twice` has no `twice`\n  that can be named from here\n'
         fact = 'ROOT/proofs/Other.antt:3:1: error: `other`: expected type `1 ≡ 2`, but this has type `1 ≡ 1`\n'
-        self.log('one', 'three', f'{fact}ROOT/proofs/Laws.antt:8:1: error: {unfit}logic=not-proved\n')
-        self.refuses(refusals.check_refusals, 'twice-sum did not refuse it')
+        for after in ('logic=not-proved\n', LAW_LOG):
+            self.log('one', 'three', f'{fact}ROOT/proofs/Laws.antt:8:1: error: {unfit}{after}')
+            self.refuses(refusals.check_refusals, 'twice-sum did not refuse it')
 
     def test_log_that_is_unfit_first(self):
         unfit = 'ROOT/proofs/Laws.antt:3:1: error: `thrice`: record `Rattle.one.specs.Twice.Pair`\n  has no field `n`\n'
@@ -200,6 +204,10 @@ class Refusals(Tree):
 
     def test_log_of_another_text(self):
         self.change('crates/one/proofs/Laws.antt', 'omega arith', 'omega (arith, small)')
+        self.refuses(refusals.check_refusals, 'its log is of another text')
+
+    def test_log_of_a_crate_with_another_file(self):
+        self.write('target/must-fail/one/three/proofs/More.antt', '-- A law that is no longer there.\n')
         self.refuses(refusals.check_refusals, 'its log is of another text')
 
     def test_log_of_another_edit(self):
@@ -266,6 +274,11 @@ class Contracts(Tree):
         self.change(edit, 'old:     m + wide(n)\nnew:     m + 0', 'old: it requires nothing\nnew: nothing')
         self.refuses(contracts.check_contracts, 'twice_once', 'nothing but comments and marks')
 
+    def test_edit_of_a_text_that_is_not_there_once(self):
+        for old in ('twice m', 'n'):
+            self.write('crates/one/must-fail/three.edit', BASE['crates/one/must-fail/three.edit'].replace('old: twice n = n + n', f'old: {old}'))
+            self.refuses(contracts.check_contracts, f'does not stand once in specs/Twice.antt: {old}')
+
     def test_edit_of_marks(self):
         edit = 'crates/one/must-fail/three.edit'
         self.change(edit, 'old: twice n = n + n\nnew: twice n = n + n + n', 'old: unfoldable pub twice\nnew: pub twice')
@@ -289,21 +302,28 @@ class Contracts(Tree):
             self.write('crates/one/must-fail/three.edit', BASE['crates/one/must-fail/three.edit'].replace('twice-sum', name))
             self.refuses(contracts.check_contracts, f'there is no law {name} in proofs/Laws.antt')
 
+    def test_edit_without_a_file_or_a_law(self):
+        self.write('crates/one/must-fail/three.edit', BASE['crates/one/must-fail/three.edit'].replace('file: specs/Twice.antt\n', ''))
+        self.refuses(contracts.check_contracts, 'in a file that it names')
+        self.write('crates/one/must-fail/three.edit', BASE['crates/one/must-fail/three.edit'].replace('law: proofs/Laws.antt twice-sum\n', ''))
+        self.refuses(contracts.check_contracts, 'names the law that refuses it')
+
     def test_two_wrong_definitions_in_one_edit(self):
         edit = BASE['crates/one/must-fail/three.edit']
         self.write('crates/one/must-fail/three.edit', f'name: a\n{edit}\nname: b\n{edit}')
         self.refuses(contracts.check_contracts, ': b: a wrong definition is tried alone')
 
     def test_halves(self):
-        halves = {'crates/one_code/src/lib.rt': {'wide'}}
+        halves = {'crates/one_code/src/lib.rt': {'twice', 'wide'}}
 
         def check(root, faults):
             return contracts.check_halves(root, faults, halves)
 
-        self.passes(check, 1)
-        for wrong in ('n as u32 / 1', 'u32::wrapping_mul(1, n as u32)'):
+        self.passes(check, 2)
+        for wrong, fault in (('n as u32 / 1', 'wide has a /'), ('num::wrapping_mul_u32(1, n as u32)', 'wide calls wrapping_mul_u32')):
             self.write('crates/one_code/src/lib.rt', BASE['crates/one_code/src/lib.rt'].replace('    n as u32', f'    {wrong}'))
-            self.refuses(check, 'wide has a')
+            self.refuses(check, fault)
+        halves['crates/one_code/src/lib.rt'] = {'wide'}
         self.write('crates/one_code/src/lib.rt', 'fn wide(n: u8) -> u32 {\n    n as u32 % 9\n}\n\nfn other()\n{\n}\n')
         self.refuses(check, 'wide has a %')
         self.write('crates/one_code/src/lib.rt', '// fn wide(n: u8)\n')
@@ -372,6 +392,27 @@ class Statements(Tree):
                 content = BASE['crates/one/proofs/Laws.antt'].replace('→ twice n', f'→ {name} n → twice n')
                 self.write('crates/one/proofs/Laws.antt', content.replace('use Rattle', f'use Rattle.two.proofs.Defs{use}\nuse Rattle', 1))
                 self.refuses(claims.check_statements, f'states something by {name}')
+
+    def test_operator(self):
+        self.write('crates/two/proofs/Defs.antt', '-- Sizes.\nabbrev pub _fits_ : ℕ → ℕ → Type 0\na fits b = a < b\n')
+        for use, name in (('_fits_', 'fits'), ('_fits_ as _in_', 'in')):
+            content = BASE['crates/one/proofs/Laws.antt'].replace('→ twice n', f'→ n {name} 4 → twice n')
+            self.write('crates/one/proofs/Laws.antt', content.replace('use Rattle', f'use Rattle.two.proofs.Defs.{{{use}}}\nuse Rattle', 1))
+            self.refuses(claims.check_statements, f'states something by {name}')
+
+    def test_law_over_variables_among_worked_examples(self):
+        self.write('crates/placement/proofs/Worked.antt', '-- Numbers.\nabbrev two : ℕ\ntwo = 2\n\nlaw : two ≡ 2\nlaw = refl\n')
+        self.write('docs/CLAIMS.md', '`law` (`crates/placement/proofs/Worked.antt`), `twice-sum` (`crates/one/proofs/Laws.antt`)\n')
+        self.passes(claims.check_statements, 1)
+        self.change('crates/placement/proofs/Worked.antt', 'law : two ≡ 2', 'law : (n : ℕ) → Small n two')
+        self.refuses(claims.check_statements, 'law states something by two')
+
+    def test_contract_or_definition_by_what_stands_in_proofs(self):
+        ways = {'crates/one_code/src/lib.rt': 'ghost use Rattle.one.proofs.Laws.{thrice};', 'crates/one/specs/Twice.antt': 'use Rattle.one.proofs.Laws as l'}
+        for path, line in ways.items():
+            self.write(path, line + '\n' + BASE[path])
+            self.refuses(claims.check_statements, f'{path}: names Rattle.one.proofs.Laws')
+            self.write(path, BASE[path])
 
     def test_bound_names_and_fields_are_no_uses(self):
         for statement in ('(thrice : ℕ) → thrice ≡ 3', '(x : ℕ) → x .thrice ≡ 3', '(λ thrice. thrice) ≡ 3', 'held ≡ 3'):
@@ -455,8 +496,9 @@ class Unfolding(Tree):
 
     def test_closed_statement_of_a_listed_file(self):
         statement = 'law : map (λ (n : ℕ). blockAt n) (1 ∷ 2 ∷ []) ≡ 3 ∷ 4 ∷ []'
-        self.unfold(self.WORKED, '.{blockAt}', 'unfolding blockAt', statement, 'law = refl')
-        self.passes(laws.check_unfolding, 2)
+        for pair, proof in (('', 'refl'), (' × (blockAt 1 ≡ 3)', '(refl, refl)')):
+            self.unfold(self.WORKED, '.{blockAt}', 'unfolding blockAt', statement + pair, f'law = {proof}')
+            self.passes(laws.check_unfolding, 2)
 
     def test_file_of_that_name_that_is_not_listed(self):
         for path in ('crates/one/proofs/Worked.antt', 'crates/one/proofs/Cases.antt', 'crates/placement/proofs/more/Worked.antt'):
@@ -485,6 +527,21 @@ class Unfolding(Tree):
             with self.subTest(statement=statement):
                 self.unfold(self.WORKED, '.{blockAt}', 'unfolding blockAt', statement, proof)
                 self.refuses(laws.check_unfolding, 'law unfolds blockAt')
+
+
+    def test_abbreviations_that_are_used_above(self):
+        self.write('crates/prediction/specs/Blocks.antt', '-- Blocks.\npub blockAt : ℕ → ℕ\nblockAt n = n\n\nabbrev pub still : ℕ\nstill = 0\n')
+        self.unfold(self.LAW, '.{blockAt, still}', '-- none')
+        self.unfold('crates/prediction_code/proofs/Laws.antt', '.{blockAt}', '-- none')
+        self.passes(laws.check_open, 1)
+        self.change('crates/prediction/specs/Blocks.antt', 'pub blockAt', 'unfoldable abbrev pub blockAt')
+        self.refuses(laws.check_open, 'Laws.antt: uses Rattle.prediction.specs.Blocks.blockAt')
+        for use, name in (('.{other}', 'Rattle.prediction.specs.Blocks.blockAt'), (' as x', 'x.blockAt'), ('.{blockAt as b}', 'b')):
+            self.unfold(self.LAW, use, '-- none', f'pub law : {name} 1 ≡ 1')
+            self.refuses(laws.check_open, 'Laws.antt: uses Rattle.prediction.specs.Blocks.blockAt')
+        self.unfold(self.LAW, '.{still}', '-- none')
+        self.change('crates/one_code/src/lib.rt', 'ghost use', 'ghost use Rattle.prediction.specs.Blocks.{blockAt};\nghost use')
+        self.refuses(laws.check_open, 'lib.rt: uses Rattle.prediction.specs.Blocks.blockAt')
 
 
 class Borders(Tree):
@@ -537,6 +594,14 @@ class Documents(Tree):
         self.passes(documents.check_paths, 1)
         self.write('README.md', 'see /' + 'home/me\n')
         self.refuses(documents.check_paths, 'names a path of one machine')
+
+
+class Reports(unittest.TestCase):
+    def test_what_was_not_checked_is_a_fault(self):
+        for counts, faults, status in (({'files': 3}, [], 0), ({'files': 0}, [], 1), ({'files': 3}, ['a fault'], 1)):
+            with contextlib.redirect_stdout(io.StringIO()) as out:
+                self.assertEqual(repository.report(counts, faults), status)
+            self.assertIn(f'files, {status} faults', out.getvalue())
 
 
 class Reading(unittest.TestCase):

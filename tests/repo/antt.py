@@ -2,7 +2,7 @@
 import dataclasses
 import re
 
-from .text import code_of, read_code
+from .text import read_code
 
 MARKS = r'((?:(?:unfoldable|abbrev|axiom|pub) )*)'
 HEADER = re.compile(r'^(?:unfoldable )?(?:pub )?use\s+(?:package\.)?([^\s{}]+?)(?:\.\{([^}]*)\})?(?:\s+as\s+(\S+))?[ \t]*$', re.M)
@@ -13,6 +13,7 @@ NO_SIGNATURE = {'=', 'use', 'mod', 'open', 'module', 'unfolding', 'infix', 'infi
 class Declaration:
     name: str
     kind: str  # law, definition, record, data, field or constructor; a law is what has no mark of a definition
+    marks: str
     context: str  # the parameters of the modules around it
     statement: str
     body: str = ''
@@ -39,8 +40,14 @@ def uses(code):
             known[alias or path.split('.')[-1]] = path
         for item in filter(None, (part.strip() for part in items.split(','))):
             name, _, other = item.partition(' as ')
-            known[other.strip() or name.split('.')[-1]] = f'{path}.{name.strip()}'
+            for spelling in spellings(other.strip() or name.split('.')[-1]):
+                known[spelling] = f'{path}.{name.strip()}'
     return known
+
+
+def spellings(name):
+    """How a name is written at a use: as it is, and an operator also by its parts."""
+    return {name, *filter(None, name.split('_'))} if '_' in name and '«' not in name else {name}
 
 
 def whole(name, known):
@@ -78,12 +85,12 @@ def declarations(code):
     found = []
     for block, context, text in members(code):
         if m := re.match(rf'\s*{MARKS}(record|data) ([^\s(){{}}]+)(.*)', text, re.S):
-            found.append(Declaration(m[3], m[2], context, m[4]))
+            found.append(Declaration(m[3], m[2], m[1], context, m[4]))
             continue
         m = re.match(rf'\s*{MARKS}([^\s(){{}}:][^(){{}}:]*?)(?: \{{[^}}]*\}})? :\s(.*)', text, re.S)
         if m and not set(m[2].split()) & NO_SIGNATURE:
             kind = {'record': 'field', 'data': 'constructor'}.get(block, 'definition' if re.search('unfoldable|abbrev', m[1]) else 'law')
-            found.extend(Declaration(name, kind, context, m[3]) for name in m[2].split())
+            found.extend(Declaration(name, kind, m[1], context, m[3]) for name in m[2].split())
         elif found:
             found[-1].body += text + '\n'
     return found
@@ -94,9 +101,13 @@ def bound(text):
     return {name for group in re.findall(r'[({]([^(){}:]+) :\s|λ\s+([^.(]+)\.', text) for name in ' '.join(group).split()}
 
 
+def words(text):
+    return {word.rstrip('.') for word in re.findall(r'[^\s(){};,]+', text)}
+
+
 def named(text):
     """The names that a statement uses, as they are written there, but for those that it binds."""
-    return {word.rstrip('.') for word in re.findall(r'[^\s(){};,]+', text)} - bound(text)
+    return words(text) - bound(text)
 
 
 def closed(declaration):
@@ -107,3 +118,7 @@ def closed(declaration):
 
 def declared_in(file):
     return declarations(read_code(file))
+
+
+def is_law(file, name):
+    return file.is_file() and any(d.name == name and d.kind == 'law' for d in declared_in(file))

@@ -37,15 +37,16 @@ def check_statements(root, faults):
     """A theorem's reader reads its statement and specs/: no name of its statement is declared in proofs/."""
     inside = set()
     for file in root.glob('crates/*/proofs/**/*.antt'):
-        inside.update(f'{antt.module_of(root, file)}.{d.name}' for d in antt.declared_in(file) if d.kind != 'field')
+        names = {spelling for d in antt.declared_in(file) if d.kind != 'field' for spelling in antt.spellings(d.name)}
+        inside.update(f'{antt.module_of(root, file)}.{name}' for name in names)
     text = (root / 'docs' / 'CLAIMS.md').read_text()
     cited = {(root / path, name) for name, path in CITED.findall(text) if re.match(r'crates/\w+/proofs/.*\.antt$', path)}
     count = 0
-    for file in sorted({file for file, _ in cited if file.is_file() and str(file.relative_to(root)) not in WORKED}):
+    for file in sorted({file for file, _ in cited if file.is_file()}):
         code = read_code(file)
         known, module = antt.uses(code), antt.module_of(root, file)
         for law in antt.declarations(code):
-            if (file, law.name) not in cited:
+            if (file, law.name) not in cited or (str(file.relative_to(root)) in WORKED and antt.closed(law)):
                 continue
             count += 1
             where = f'{file.relative_to(root)}: {law.name}'
@@ -54,6 +55,9 @@ def check_statements(root, faults):
             for name in sorted(antt.named(law.context + ' ' + law.statement)):
                 if {antt.whole(name, known), f'{module}.{name}'} & inside:
                     faults.append(f'{where} states something by {name}, which is declared in proofs/')
+    for file in sorted(file for part in ('src/**/*.rt', 'specs/**/*.antt') for file in root.glob(f'crates/*/{part}')):
+        if by := re.search(r'Rattle·\w+(?:·proofs)?\.proofs\b[\w.]*', read_code(file)):
+            faults.append(f'{file.relative_to(root)}: names {by[0]}; what a contract or a definition uses stands in specs/')
     return count
 
 
@@ -73,6 +77,6 @@ def check_specs(root, faults):
             faults.append(f'{where}: is proved, and names no law as `name` (proofs/File.antt)')
         for name, path in laws:
             law = root / path if path.startswith('crates/') else root / 'crates' / where.parts[1] / path
-            if not law.is_file() or not any(d.name == name and d.kind == 'law' for d in antt.declared_in(law)):
+            if not antt.is_law(law, name):
                 faults.append(f'{where}: there is no law {name} in {path}')
     return count

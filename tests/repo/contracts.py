@@ -29,6 +29,11 @@ def faults_of(edit):
     if not edit.changes or any(not where.startswith(folder) for where, _, _ in edit.changes):
         yield f'a wrong answer of this crate changes a text in {folder}, in a file that it names'
         return
+    texts, _ = changed(edit.crate, edit.changes)
+    for where, old, _ in edit.changes:
+        if texts.get(where, '').count(old) != 1:
+            yield f'does not stand once in {where}: {old.strip()}'
+            return
     for change in edit.changes:
         before, after = changed(edit.crate, [change])
         if all(same_code(before[where], after[where], suffix) for where in before):
@@ -40,8 +45,7 @@ def faults_of(edit):
         yield 'a wrong definition names the law that refuses it, and a wrong program none'
     elif definition:
         path, _, law = edit.fields['law'].partition(' ')
-        file = edit.crate / path
-        if not path.startswith('proofs/') or not file.is_file() or not any(d.name == law and d.kind == 'law' for d in antt.declared_in(file)):
+        if not path.startswith('proofs/') or not antt.is_law(edit.crate / path, law):
             yield f'there is no law {law} in {path}'
 
 
@@ -87,14 +91,16 @@ HALVES = {
 
 def check_halves(root, faults, halves=HALVES):
     """Document 02, R-2: shifts and masks only. The compiler turns a division by a power of two into a shift, so that only the text shows it."""
-    count = 0
+    between = []
     for path, wanted in halves.items():
         code = code_of((root / path).read_text(), '.rt')
         found = [f for f in rattle.functions_in(code, path, []) if wanted is None or f.name in wanted]
-        for f in found:
-            if sign := re.search(r'[*/%]|\b\w*(?:mul|div|rem)\w*\(', f.body):
-                faults.append(f'{path}: {f.name} has a {sign[0]}')
         if not found or (wanted or set()) - {f.name for f in found}:
             faults.append(f'{path}: a function between a vector word and its components was not found')
-        count += len(found)
-    return count
+        between.extend(found)
+    for f in between:
+        if sign := re.search(r'[*/%]', f.body):
+            faults.append(f'{f.file}: {f.name} has a {sign[0]}')
+        for called in sorted(set(re.findall(r'(\w+)\(', f.body)) - {other.name for other in between}):
+            faults.append(f'{f.file}: {f.name} calls {called}, which is not looked at')
+    return len(between)

@@ -15,12 +15,10 @@ WORKED = {
 
 def check_borders(root, faults):
     """What stands in `proofs/Lib.antt` behind '-- for its functions alone' is cited by the crate of these functions only."""
-    count = 0
     private = {}
     for lib in sorted(root.glob('crates/*/proofs/Lib.antt')):
         if section := re.search(r'^-- for its functions alone\n((?:pub mod \w+\n)+)', lib.read_text(), re.M):
             private[lib.parent.parent.name] = set(re.findall(r'pub mod (\w+)', section[1]))
-    count = sum(map(len, private.values()))
     for file in sorted(file for suffix in ('antt', 'rt') for file in root.glob(f'crates/*/*/**/*.{suffix}')):
         crate = file.relative_to(root / 'crates').parts[0]
         code = read_code(file)
@@ -32,12 +30,33 @@ def check_borders(root, faults):
             faults.append(f'{where}: brings in a whole crate, so that it cannot be told what it cites: {line.strip()}')
         if file.suffix == '.antt' and (passed := re.search(r'^.*\bpub use .*', code, re.M)):
             faults.append(f'{where}: passes on what another file declares: {passed[0].strip()}')
-    return count
+    return sum(map(len, private.values()))
+
+
+# The abbreviations of `prediction` that are used above it: they unfold everywhere.
+OPEN = {'still', 'Occupies', 'InPicture'}
+
+
+def check_open(root, faults):
+    """Above `prediction` and its code no other abbreviation of it is named, so that nothing above sees through what it keeps to itself."""
+    opened = set()
+    for file in root.glob('crates/prediction/specs/**/*.antt'):
+        opened.update(f'{antt.module_of(root, file)}.{d.name}' for d in antt.declared_in(file) if 'abbrev' in d.marks)
+    for file in sorted(file for suffix in ('antt', 'rt') for file in root.glob(f'crates/*/*/**/*.{suffix}')):
+        if file.relative_to(root / 'crates').parts[0] in ('prediction', 'prediction_code'):
+            continue
+        code = re.sub(r'^ghost (use .*);', r'\1', read_code(file), flags=re.M)
+        known = antt.uses(code)
+        for name in sorted({antt.whole(name, known) for name in [*known, *antt.words(code)]} & opened):
+            if name.split('.')[-1] not in OPEN:
+                faults.append(f'{file.relative_to(root)}: uses {name}, which unfolds everywhere')
+    return len(opened)
 
 
 def worked(declaration):
     """A closed statement that is proved by computing it."""
-    return antt.closed(declaration) and re.search(rf'^ *{re.escape(declaration.name)} = (?:refl|\(refl(?:, refl)+\))\s*\Z', declaration.body, re.M) is not None
+    proof = re.search(rf'^ *{re.escape(declaration.name)} = (.*)\Z', declaration.body, re.M | re.S)
+    return antt.closed(declaration) and proof is not None and re.fullmatch(r'refl|\(refl(?:, refl)+\)', proof[1].strip()) is not None
 
 
 def check_unfolding(root, faults):

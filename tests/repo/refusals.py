@@ -32,20 +32,18 @@ def is_fact(message):
 
 def refused_by_law(found, edit):
     """The law itself is refused at a fact, and not only because another one was."""
-    where, law = edit.fields['law'].split()
+    where, _, law = edit.fields['law'].partition(' ')
     own = [message for file, _, message in found if file == where and message.startswith(f'error: `{law}`:')]
-    return any(is_fact(message) for message in own)
+    return bool(own) and is_fact(own[0])
 
 
 def changed_functions(edit):
     """The functions that a wrong program changes; where it changes a constant, those that it guards."""
     everything = list(rattle.functions(edit.crate))
-    lines = {}
-    for where, old, _ in edit.changes:
-        text = (edit.crate / where).read_text()
-        lines.setdefault(where, set()).add(text.count('\n', 0, text.find(old)) + 1)
-    own = [f for f in everything if any(f.first <= line <= f.last for line in lines.get(f.file, ()))]
-    return own or [f for f in everything if f.called() in edit.fields['guards'].split()]
+    before, _ = changed(edit.crate, edit.changes)
+    lines = {(where, before[where].count('\n', 0, before[where].find(old)) + 1) for where, old, _ in edit.changes if where in before}
+    own = [f for f in everything if any(f.file == where and f.first <= line <= f.last for where, line in lines)]
+    return own or [f for f in everything if f.called() in edit.fields.get('guards', '').split()]
 
 
 def refused_in_function(found, edit, log):
@@ -59,15 +57,17 @@ def refused_in_function(found, edit, log):
     return False
 
 
+def texts_of(folder):
+    files = (file for part in ('src', 'specs', 'proofs') for file in folder.glob(f'{part}/**/*') if file.is_file())
+    return {str(file.relative_to(folder)): file.read_text().rstrip('\n') for file in files}
+
+
 def tried_now(log, crate, parts):
     """The log is of the crate as it stands, with these wrong answers in it, and the prover refused that."""
     _, after = changed(crate, [change for edit in parts for change in edit.changes])
-    for file in sorted(file for folder in ('src', 'specs', 'proofs') for file in crate.glob(f'{folder}/**/*') if file.is_file()):
-        name = str(file.relative_to(crate))
-        copy = log.parent / name
-        if not copy.is_file() or copy.read_text().rstrip('\n') != after.get(name, file.read_text()).rstrip('\n'):
-            return False
-    return re.search(r'^logic=not-proved', log.read_text(), re.M) is not None
+    due, there = texts_of(crate), texts_of(log.parent)
+    due.update((name, text.rstrip('\n')) for name, text in after.items())
+    return due == there and re.search(r'^logic=not-proved', log.read_text(), re.M) is not None
 
 
 def fault_of(edit, log):
