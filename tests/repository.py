@@ -5,9 +5,10 @@ tests/repository_test.py tries each on a small tree.
 - A crate with definitions declares no function, and a crate with functions no definition: two storeys.
 - Every public function of a library has an ensures and no requires, and two wrong answers name it: one of its code, and one of a definition
   below (guards: crate::function).
-- Every wrong answer says what it guards and why, and changes what is computed and no contract or signature. A must-fail edit tries one, or several
-  (name: ..), each in another function; each was refused as it stands now and at a fact, not because the proof no longer fits the code: a wrong
-  definition by the law that it names, a wrong program in the proof of the very function that it changes.
+- Every wrong answer says what it guards and why, and changes what is computed and no contract or signature; what it guards stands above the wrong
+  definition or calls the wrong program. A must-fail edit tries one, or several (name: ..), each in another function; each was refused as it stands
+  now and at a fact, not because the proof no longer fits the code: a wrong definition by the law that it names, a wrong program in the proof of
+  the very function that it changes.
 - Every name that docs/CLAIMS.md cites is declared in the file that it cites, and every edit that it cites is there.
 - What a cited law states is declared in specs/, worked examples apart, and each file of specs/ says whether it has to be believed or which law
   proves it.

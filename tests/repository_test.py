@@ -13,6 +13,7 @@ import repository
 from repo import antt, claims, contracts, documents, laws, refusals, text
 
 BASE = {
+    'crates.txt': '# crates\none:\none_code: one\n',
     'crates/one/src/lib.rt': '',
     'crates/one/specs/Lib.antt': 'pub mod Twice\n',
     'crates/one/specs/Twice.antt': '''-- Twice a number.
@@ -268,6 +269,18 @@ class Contracts(Tree):
         self.assertEqual(len(faults), 2, faults)
         self.assertIn('three says not which public function it guards', faults[0])
         self.assertEqual(faults[1], 'one_code::twice has no must-fail edit with a wrong definition')
+
+    def test_guards_what_does_not_stand_above(self):
+        self.write('crates.txt', 'one:\nother: one\none_code: # other\n')
+        self.refuses(contracts.check_contracts, 'three: one_code::twice has nothing to do with it')
+        self.write('crates.txt', 'one:\nother: one\none_code: other\n')
+        self.passes(contracts.check_contracts, 1)
+
+    def test_guards_what_does_not_call_it(self):
+        self.change('crates/one_code/must-fail/wrong_1.edit', 'old:     m + wide(n)\nnew:     m + 0', 'old:     n as u32\nnew:     0')
+        self.passes(contracts.check_contracts, 1)
+        self.change('crates/one_code/src/lib.rt', 'let m = wide(n);\n    m + wide(n)', 'n as u64 as u32')
+        self.refuses(contracts.check_contracts, 'twice_once: one_code::twice has nothing to do with it')
 
     def test_edit_of_a_comment(self):
         edit = 'crates/one_code/must-fail/wrong_1.edit'

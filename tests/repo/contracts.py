@@ -2,7 +2,7 @@
 import re
 
 from . import antt, rattle
-from .edits import changed, edits, has_definitions, libraries
+from .edits import aside, changed, edits, has_definitions, libraries
 from .text import code_of, same_code
 
 
@@ -73,6 +73,7 @@ def check_contracts(root, faults):
             if 'why' not in edit.fields or not edit.guarded() or set(edit.guarded()) - names:
                 faults.append(f'{edit.where()} says not which public function it guards, or not why')
             faults.extend(f'{edit.where()}: {fault}' for fault in faults_of(edit))
+            faults.extend(f'{edit.where()}: {name} has nothing to do with it' for name in aside(root, edit) if name in names)
     for name in sorted(names):
         for wrong, kind in ((True, 'definition'), (False, 'program')):
             if name not in guards[wrong]:

@@ -3,6 +3,8 @@ import dataclasses
 import pathlib
 import re
 
+from . import rattle
+
 
 @dataclasses.dataclass
 class Edit:
@@ -58,3 +60,37 @@ def changed(crate, changes):
         if where in after and old:
             after[where] = after[where].replace(old, new, 1)
     return before, after
+
+
+def changed_functions(edit):
+    """The functions that a wrong program changes; where it changes a constant, those that it guards."""
+    everything = list(rattle.functions(edit.crate))
+    before, _ = changed(edit.crate, edit.changes)
+    lines = {(where, before[where].count('\n', 0, before[where].find(old)) + 1) for where, old, _ in edit.changes if where in before}
+    own = [f for f in everything if any(f.file == where and f.first <= line <= f.last for where, line in lines)]
+    return own or [f for f in everything if f.called() in edit.fields.get('guards', '').split()]
+
+
+def reached(start, next_of):
+    """All that is reached from a start, itself too."""
+    seen, left = set(), [start]
+    while left:
+        at = left.pop()
+        if at not in seen:
+            seen.add(at)
+            left.extend(next_of.get(at, ()))
+    return seen
+
+
+def aside(root, edit):
+    """The functions that an edit names and cannot guard: those of a crate that does not stand above the wrong definition, or that do not call the
+    wrong program, within its crate."""
+    if has_definitions(edit.crate):
+        lines = (line.partition('#')[0].partition(':') for line in (root / 'crates.txt').read_text().split('\n'))
+        below = {name.strip(): crates.split() for name, _, crates in lines}
+        return [name for name in edit.guarded() if edit.crate.name not in reached(name.split('::')[0], below)]
+    calls = {}
+    for f in rattle.functions(edit.crate):
+        calls.setdefault(f.name, set()).update(re.findall(r'(\w+)\(', f.body))
+    wrong = {f.name for f in changed_functions(edit)}
+    return [name for name in edit.guarded() if not wrong & reached(name.split('::')[-1], calls)]

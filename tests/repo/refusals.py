@@ -1,8 +1,7 @@
 """What rt ci's logs say of the wrong answers: each was refused at a fact, and not because a proof no longer fits."""
 import re
 
-from . import rattle
-from .edits import changed, edits
+from .edits import changed, changed_functions, edits
 
 # What the prover says where a fact does not hold, beside what it quotes: of two types, of a function, and by omega, search, cc and simp. Whatever
 # else it says, as of a name or a field that is not there or of a law that was not admitted, only shows that a proof does not fit.
@@ -35,15 +34,6 @@ def refused_by_law(found, edit):
     where, _, law = edit.fields['law'].partition(' ')
     own = [message for file, _, message in found if file == where and message.startswith(f'error: `{law}`:')]
     return bool(own) and is_fact(own[0])
-
-
-def changed_functions(edit):
-    """The functions that a wrong program changes; where it changes a constant, those that it guards."""
-    everything = list(rattle.functions(edit.crate))
-    before, _ = changed(edit.crate, edit.changes)
-    lines = {(where, before[where].count('\n', 0, before[where].find(old)) + 1) for where, old, _ in edit.changes if where in before}
-    own = [f for f in everything if any(f.file == where and f.first <= line <= f.last for where, line in lines)]
-    return own or [f for f in everything if f.called() in edit.fields.get('guards', '').split()]
 
 
 def refused_in_function(found, edit, log):
