@@ -10,7 +10,7 @@ use Rattle.lists.proofs.Booleans.{no, both, either}
 use Rattle.answers.specs.Answers.{Rule, earlier, answerBy, judged, holdsAt, unless, before}
 use Rattle.answers.specs.declared.Answer.{Answer}
 use Rattle.answers.specs.declared.Answer.the-variants.{Accepted, Refused}
-use Rattle.answers.specs.Tables.{firstBroken, after, ascending, Hold, within}
+use Rattle.answers.specs.Tables.{firstBroken, after, ascending, Hold, Each, within}
 
 is-before : (m q n p : ℕ) → before m q n p ≡ true → (q ≤ p) × (q ≡ p → m < n)
 is-before m q n p e = by (ltb q p) (eqb q p) (ltb m n) refl refl refl e
@@ -203,34 +203,38 @@ hold-each (r ∷ rs) ss h = let k = hold-each rs ss (h .1) in ((h .0, k .0), k .
 pub both-accept : (rs ss : List Rule) → judged (rs ++ ss) ≡ Accepted → (judged rs ≡ Accepted) × (judged ss ≡ Accepted)
 both-accept rs ss e = let h = hold-each rs ss (all-hold (rs ++ ss) e) in (none-broken rs (h .0), none-broken ss (h .1))
 
-abbrev pub Within : ℕ → ℕ → Answer → Type 0
+-- What holds of 'accepted' and of the refusal by each rule of a table holds of what it answers.
+by-earlier : (P : Answer → Type 0) (a b : Answer) → P a → P b → P (earlier a b)
+by-earlier P Accepted b x y = y
+by-earlier P (Refused j p) Accepted x y = x
+by-earlier P (Refused j p) (Refused k q) x y = either P (before k q j p) (Refused k q) (Refused j p) y x
+
+pub judged-by : (P : Answer → Type 0) → P Accepted → (rs : List Rule) → Each P rs → P (judged rs)
+judged-by P a [] e = a
+judged-by P a (r ∷ rs) e =
+    by-earlier P (answerBy r) (judged rs) (either P (r .holds) Accepted (Refused (r .number) (r .place)) a (e .0)) (judged-by P a rs (e .1))
+
+abbrev Within : ℕ → ℕ → Answer → Type 0
 Within m n Accepted = Unit {0}
-Within m n (Refused k p) = (1 ≤ k) × (k ≤ m) × (p ≤ n)
+Within m n (Refused k p) = (2 ≤ k) × (k ≤ m) × (p ≤ n)
 
-within-earlier : (m n : ℕ) (a b : Answer) → Within m n a → Within m n b → Within m n (earlier a b)
-within-earlier m n Accepted b x y = y
-within-earlier m n (Refused j p) Accepted x y = x
-within-earlier m n (Refused j p) (Refused k q) x y = either (Within m n) (before k q j p) (Refused k q) (Refused j p) y x
-
-within-judged : (m n : ℕ) (rs : List Rule) → T (within m n rs) → Within m n (judged rs)
-within-judged m n [] t = tt
-within-judged m n (r ∷ rs) t =
-    let h = both (leb 1 (r .number) && leb (r .number) m) (leb (r .place) n && within m n rs) t in
-    let k = both (leb 1 (r .number)) (leb (r .number) m) (h .0) in
+each-within : (m n : ℕ) (rs : List Rule) → T (within m n rs) → Each (Within m n) rs
+each-within m n [] t = tt
+each-within m n (r ∷ rs) t =
+    let h = both (leb 2 (r .number) && leb (r .number) m) (leb (r .place) n && within m n rs) t in
+    let k = both (leb 2 (r .number)) (leb (r .number) m) (h .0) in
     let p = both (leb (r .place) n) (within m n rs) (h .1) in
-    within-earlier m n (answerBy r) (judged rs)
-    (either (Within m n) (r .holds) Accepted (Refused (r .number) (r .place)) tt (leb→le 1 (r .number) (k .0), leb→le (r .number) m (k .1), leb→le (r .place) n (p .0)))
-    (within-judged m n rs (p .1))
+    ((leb→le 2 (r .number) (k .0), leb→le (r .number) m (k .1), leb→le (r .place) n (p .0)), each-within m n rs (p .1))
 
-pub judged-within : (m n : ℕ) (rs : List Rule) {k p : ℕ} → T (within m n rs) → judged rs ≡ Refused k p → (1 ≤ k) × (k ≤ m) × (p ≤ n)
-judged-within m n rs t e = subst (Within m n) e (within-judged m n rs t)
+pub judged-within : (m n : ℕ) (rs : List Rule) {k p : ℕ} → T (within m n rs) → judged rs ≡ Refused k p → (2 ≤ k) × (k ≤ m) × (p ≤ n)
+judged-within m n rs t e = subst (Within m n) e (judged-by (Within m n) tt rs (each-within m n rs t))
 
 pub within-both : (m n : ℕ) (rs ss : List Rule) → T (within m n rs) → T (within m n ss) → T (within m n (rs ++ ss))
 within-both m n [] ss t u = u
 within-both m n (r ∷ rs) ss t u =
-    let h = both (leb 1 (r .number) && leb (r .number) m) (leb (r .place) n && within m n rs) t in
+    let h = both (leb 2 (r .number) && leb (r .number) m) (leb (r .place) n && within m n rs) t in
     let p = both (leb (r .place) n) (within m n rs) (h .1) in
-    together (leb 1 (r .number) && leb (r .number) m) (leb (r .place) n && within m n (rs ++ ss)) (h .0)
+    together (leb 2 (r .number) && leb (r .number) m) (leb (r .place) n && within m n (rs ++ ss)) (h .0)
     (together (leb (r .place) n) (within m n (rs ++ ss)) (p .0) (within-both m n rs ss (p .1) u))
   where
     together : (a b : Bool) → T a → T b → T (a && b)

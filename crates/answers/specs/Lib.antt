@@ -1,4 +1,5 @@
 pub mod Answers
 pub mod Examples
 pub mod Lending
+pub mod Numbers
 pub mod Tables

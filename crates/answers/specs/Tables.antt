@@ -1,5 +1,5 @@
 -- What is said of a table of rules.
--- Proved: against `judged`, by `in-order`, `all-hold`, `none-broken` and `judged-within` (proofs/Judging.antt).
+-- Proved: against `judged`, by `in-order`, `all-hold`, `none-broken`, `judged-by` and `judged-within` (proofs/Judging.antt).
 use mathlib.Core.Path.{_≡_}
 use mathlib.Core.Bool.{Bool, true, cond, not, _&&_}
 use mathlib.Core.List.{List, [], _∷_}
@@ -27,7 +27,12 @@ abbrev pub Hold : List Rule → Type 0
 Hold [] = Unit {0}
 Hold (r ∷ rs) = (r .holds ≡ true) × Hold rs
 
--- A table whose rules have numbers from 1 to m and places up to n refuses with such a number and place.
+-- Something holds of the refusal by each rule of a table.
+abbrev pub Each : (Answer → Type 0) → List Rule → Type 0
+Each P [] = Unit {0}
+Each P (r ∷ rs) = P (Refused (r .number) (r .place)) × Each P rs
+
+-- A table whose rules have numbers from 2 to m and places up to n refuses with such a number and place. (1 is no rule's number: words run out.)
 abbrev pub within : ℕ → ℕ → List Rule → Bool
 within m n [] = true
-within m n (r ∷ rs) = (leb 1 (r .number) && leb (r .number) m) && (leb (r .place) n && within m n rs)
+within m n (r ∷ rs) = (leb 2 (r .number) && leb (r .number) m) && (leb (r .place) n && within m n rs)

@@ -2,7 +2,7 @@
 use mathlib.Core.Bool.{Bool, true, false, cond}
 use mathlib.Core.List.{List, [], _∷_, _++_, foldl}
 use mathlib.Core.Logic.{_⊎_, inl, inr}
-use mathlib.Core.Path.{_≡_, refl, sym, ap, _∙_, subst}
+use mathlib.Core.Path.{_≡_, refl, sym, ap, _∙_}
 use Prim.Native.Nat.{ℕ, _+_, _≤_}
 use native.Mathlib.Omega.{arith}
 use lib.Dec.{eqb, leb, ltb}
@@ -10,29 +10,33 @@ use lib.ListN.{length}
 use Rattle.headers.specs.Headers.{headerOf, wordsIn}
 use Rattle.headers.specs.Words.{wordAt}
 use Rattle.headers.specs.declared.Header.{Header}
+use Rattle.progress.specs.Buffers.{Buffer, source, reconstructed, forward, backward, bufferNumber}
+use Rattle.progress.specs.Progress.{fresh}
 use Rattle.progress.specs.declared.Progress.{Progress}
 use Rattle.progress.specs.declared.Verdict.{Verdict}
 use Rattle.progress.specs.declared.Verdict.the-variants.{Next, Stop}
 use Rattle.sequence.specs.Judging.{judge}
 use Rattle.sequence.proofs.JudgingLaws.{stops-within}
-use Rattle.batch.specs.Reports.{reportNumber, reportable, measured, ending, concluding, verdictOf, report}
+use Rattle.batch.specs.Numbers.{RefusedBy, run-out, broken, too-many, CheckedBy, accepted, refused, short-buffer}
+use Rattle.batch.specs.Reports.{reportNumber, reportPlace, reportable, measured, ending, concluding, verdictOf, report}
 use Rattle.batch.specs.Walk.{Walk, going, stopped, limit, after, step, start}
 use Rattle.batch.specs.declared.Lengths.{Lengths}
 use Rattle.batch.specs.declared.Report.the-variants as answers
 use Rattle.batch.specs.declared.Reported.{Reported}
 use Rattle.batch.proofs.Measuring.{outcome}
+use Rattle.batch.proofs.WalkLaws.{counted}
 use Rattle.batch.specs.Outcomes.{Outcome, enough, short}
 
 -- the numbers with which a walk stops
-abbrev StopNumber : ℕ → Type 0
-StopNumber n = ((1 ≤ n) × (n ≤ 12)) ⊎ (n ≡ 27)
+abbrev StopNumber : ℕ → ℕ → Type 0
+StopNumber n place = ((2 ≤ n) × (n ≤ 12)) ⊎ ((n ≡ 27) × (place ≡ limit))
 
 abbrev Numbered : Walk → Type 0
 Numbered (going at p g) = Unit {0}
-Numbered (stopped n place) = StopNumber n
+Numbered (stopped n place) = StopNumber n place
 
 -- a command that was judged
-numbered-after : (at next : ℕ) (v : Verdict) → ((n w : ℕ) → v ≡ Stop n w → (1 ≤ n) × (n ≤ 12) × (w ≤ 8)) → Numbered (after at next v)
+numbered-after : (at next : ℕ) (v : Verdict) → ((n w : ℕ) → v ≡ Stop n w → (2 ≤ n) × (n ≤ 12) × (w ≤ 8)) → Numbered (after at next v)
 unfolding after
 numbered-after at next (Next q) h = tt
 numbered-after at next (Stop n w) h = let k = h n w refl in inl (k .0, k .1)
@@ -53,7 +57,7 @@ numbered-step (going at p g) w k = by (leb limit (at + length g)) (p .stage .end
         (cond ended
         (cond z (going (at + length g + 1) p []) (stopped 12 (at + length g)))
         (cond unknown (stopped 2 at) (cond more (going at p g+) (after at (at + length g+) (judge h p g+))))))
-    by true ended z unknown more = inr refl
+    by true ended z unknown more = inr (refl, refl)
     by false true true unknown more = tt
     by false true false unknown more = inl (omega arith, omega arith)
     by false false z true more = inl (omega arith, omega arith)
@@ -64,22 +68,52 @@ numbered-fold : (s : Walk) (ws : List ℕ) → Numbered s → Numbered (foldl st
 numbered-fold s [] k = k
 numbered-fold s (w ∷ ws) k = numbered-fold (step s w) ws (numbered-step s w k)
 
--- A walk stops with a number from 1 to 12, or with 27.
-pub stop-numbers : (ws : List ℕ) (n place : ℕ) → foldl step start ws ≡ stopped n place → ((1 ≤ n) × (n ≤ 12)) ⊎ (n ≡ 27)
-stop-numbers ws n place e = subst Numbered e (numbered-fold start ws tt)
-
--- A batch is refused with such a number; one that lacks END, with 1.
-pub verdict-numbers : (ws : List ℕ) (n place : ℕ) → verdictOf ws ≡ Stop n place → ((1 ≤ n) × (n ≤ 12)) ⊎ (n ≡ 27)
+-- A batch is refused by one of its rules, by 27, or, where it lacks END, by 1 at the words given.
+pub refused-by : (ws : List ℕ) (n place : ℕ) → verdictOf ws ≡ Stop n place → RefusedBy (length ws) n place
 unfolding verdictOf
-verdict-numbers ws n place e = by (foldl step start ws) (numbered-fold start ws tt) e
+refused-by ws n place e = by (foldl step start ws) refl (numbered-fold start ws tt) e
   where
-    lacks : (p : Progress) (at : ℕ) (ended : Bool) → cond ended (Next p) (Stop 1 at) ≡ Stop n place → StopNumber n
-    lacks p at true e = let z : _≡_ {A = ℕ} 0 1 = cc in absurd (omega arith)
-    lacks p at false e = let i : 1 ≡ n = cc in inl (omega arith, omega arith)
+    lacks : (p : Progress) (at : ℕ) → at ≡ length ws → (ended : Bool) → cond ended (Next p) (Stop 1 at) ≡ Stop n place → RefusedBy (length ws) n place
+    lacks p at all true e = let z : _≡_ {A = ℕ} 0 1 = cc in absurd (omega arith)
+    lacks p at all false e = let i : 1 ≡ n = cc in let j : at ≡ place = cc in run-out (sym i) (sym j ∙ all)
 
-    by : (s : Walk) → Numbered s → ending s ≡ Stop n place → StopNumber n
-    by (stopped m q) k e = let i : m ≡ n = cc in subst StopNumber i k
-    by (going at p g) k e = lacks p (at + length g) (p .stage .ended) e
+    stops : StopNumber n place → RefusedBy (length ws) n place
+    stops (inl k) = broken (k .0) (k .1)
+    stops (inr k) = too-many (k .0) (k .1)
+
+    by : (s : Walk) → foldl step start ws ≡ s → Numbered s → ending s ≡ Stop n place → RefusedBy (length ws) n place
+    by (stopped m q) w k e = let i : m ≡ n = cc in let j : q ≡ place = cc in stops (rw (i, j) at k)
+    by (going at p g) w k e =
+        let all = counted 0 fresh [] ws at p g w in
+        lacks p (at + length g) (omega arith) (p .stage .ended) e
+
+-- The number is none but 1 to 12 and 27.
+pub verdict-numbers : (ws : List ℕ) (n place : ℕ) → verdictOf ws ≡ Stop n place → ((1 ≤ n) × (n ≤ 12)) ⊎ (n ≡ 27)
+verdict-numbers ws n place e = by (refused-by ws n place e)
+  where
+    by : RefusedBy (length ws) n place → ((1 ≤ n) × (n ≤ 12)) ⊎ (n ≡ 27)
+    by (run-out i at) = inl (omega arith, omega arith)
+    by (broken low high) = inl (omega arith, high)
+    by (too-many i at) = inr i
+
+-- What the check answers.
+pub check-numbers : (l : Lengths) (ws : List ℕ) → CheckedBy (length ws) (reportNumber (report l ws)) (reportPlace (report l ws))
+unfolding report
+check-numbers l ws = by (verdictOf ws) refl
+  where
+    buffer : (b : Buffer) → bufferNumber b ≤ 3
+    buffer source = omega arith
+    buffer reconstructed = omega arith
+    buffer forward = omega arith
+    buffer backward = omega arith
+
+    measures : (r : Reported) → Outcome r l → CheckedBy (length ws) (reportNumber (measured r l)) (reportPlace (measured r l))
+    measures r (enough all a) = accepted (ap reportNumber a) (ap reportPlace a)
+    measures r (short c s low a) = short-buffer (ap reportNumber a) (rw (ap reportPlace a) (buffer c))
+
+    by : (v : Verdict) → verdictOf ws ≡ v → CheckedBy (length ws) (reportNumber (concluding l v)) (reportPlace (concluding l v))
+    by (Next p) s = measures (reportable p) (outcome (reportable p) l)
+    by (Stop n place) s = refused (refused-by ws n place s)
 
 -- A batch is accepted by number 0 alone.
 pub accepted-by-0 : (l : Lengths) (ws : List ℕ) → reportNumber (report l ws) ≡ 0 → (r : Reported) × (report l ws ≡ answers.Accepted r)
@@ -90,10 +124,11 @@ accepted-by-0 l ws h = by (verdictOf ws) refl h
     measured-0 r (enough all a) h = (r, a)
     measured-0 r (short c s low a) h = let z : _≡_ {A = ℕ} 13 0 = sym (ap reportNumber a) ∙ h in absurd (omega arith)
 
-    stopped-0 : (n : ℕ) → StopNumber n → n ≡ 0 → ⊥
-    stopped-0 n (inl k) h = let low = k .0 in omega arith
-    stopped-0 n (inr k) h = omega arith
+    stopped-0 : (n place : ℕ) → RefusedBy (length ws) n place → n ≡ 0 → ⊥
+    stopped-0 n place (run-out i at) h = omega arith
+    stopped-0 n place (broken low high) h = omega arith
+    stopped-0 n place (too-many i at) h = omega arith
 
     by : (v : Verdict) → verdictOf ws ≡ v → reportNumber (concluding l v) ≡ 0 → (r : Reported) × (concluding l v ≡ answers.Accepted r)
     by (Next p) s h = measured-0 (reportable p) (outcome (reportable p) l) h
-    by (Stop n place) s h = absurd (stopped-0 n (verdict-numbers ws n place s) h)
+    by (Stop n place) s h = absurd (stopped-0 n place (refused-by ws n place s) h)

@@ -1,5 +1,6 @@
 pub mod Batches
 pub mod Demand
+pub mod Numbers
 pub mod Reports
 pub mod Touched
 pub mod Walk

@@ -1,6 +1,7 @@
 -- for the crates above
 pub mod DecodingLaws
 pub mod DecodingLengths
+pub mod Numbers
 -- for its functions alone
 pub mod LogLaws
 pub mod Outcomes

@@ -1,12 +1,27 @@
--- The fields of the answers' structs, in the order of their declaration.
-use mathlib.Core.List.{[], _∷_}
-use mathlib.Core.Path.{_≡_, refl}
+-- The fields of the answers' structs, in the order of their declaration, and the numbers and places that they can have.
+use mathlib.Core.List.{List, [], _∷_}
+use mathlib.Core.Path.{_≡_, refl, sym, subst}
+use Prim.Native.Nat.{ℕ}
+use lib.ListN.{length}
 use Rattle.answers.specs.Answers as answer
+use Rattle.answers.specs.Numbers.{Listed}
 use Rattle.answers.specs.declared.Answer.{Answer}
-use Rattle.batch.specs.Reports.{reportNumber, reportPlace, reportedOf}
+use Rattle.commands.specs.Commands.{batchPicture}
+use Rattle.records.specs.Alone.{readAnswer, writeAnswer}
+use Rattle.records.specs.Numbers.{readPlaces, writePlaces}
+use Rattle.records.proofs.Numbers.{read-numbers, write-numbers}
+use Rattle.batch.specs.Numbers.{CheckedBy}
+use Rattle.batch.specs.Reports.{reportNumber, reportPlace, reportedOf, report}
+use Rattle.batch.specs.declared.Lengths.{Lengths}
 use Rattle.batch.specs.declared.Report.{Report}
 use Rattle.batch.specs.declared.Report.the-variants.{Accepted, Short, Refused}
+use Rattle.batch.proofs.Numbers.{check-numbers}
+use Rattle.decoding.specs.Logs.{logLength, decoded}
+use Rattle.decoding.specs.Numbers.{DecodedBy}
+use Rattle.decoding.proofs.Numbers.{decode-numbers}
 use Rattle.interface.specs.Summaries.{summaryOf, outcomeOf, summaryFields, outcomeFields}
+use Rattle.interface.specs.declared.Outcome.{Outcome}
+use Rattle.interface.specs.declared.Summary.{Summary}
 
 -- They are document 01's number and place, and its four lengths in the order of the buffers.
 pub summary-fields : (r : Report) → summaryFields (summaryOf r) ≡ reportNumber r ∷ reportPlace r ∷ reportedOf r
@@ -16,3 +31,21 @@ summary-fields (Refused n place) = refl
 
 pub outcome-fields : (a : Answer) → outcomeFields (outcomeOf a) ≡ answer.numberOf a ∷ answer.placeOf a ∷ []
 outcome-fields a = refl
+
+-- What include/hromulice.h says of the numbers that each function gives, from the function's contract: hromulice_check, ..
+pub check-answers : (l : Lengths) (ws : List ℕ) (r : Summary) → r ≡ summaryOf (report l ws) → CheckedBy (length ws) (r .number) (r .place)
+check-answers l ws r e = subst (λ (x : Summary). CheckedBy (length ws) (x .number) (x .place)) (sym e) (check-numbers l ws)
+
+-- .. hromulice_decode, ..
+pub decode-answers : (l : Lengths) (ws log : List ℕ) (r : Summary) → r ≡ summaryOf (decoded l ws log)
+    → DecodedBy (length ws) (logLength (batchPicture ws .grid)) (r .number) (r .place)
+decode-answers l ws log r e =
+    subst (λ (x : Summary). DecodedBy (length ws) (logLength (batchPicture ws .grid)) (x .number) (x .place)) (sym e) (decode-numbers l ws log)
+
+-- .. hromulice_read_command ..
+pub read-answers : (words room : List ℕ) (r : Outcome) → r ≡ outcomeOf (readAnswer words room) → Listed (r .number) (r .place) (readPlaces words)
+read-answers words room r e = subst (λ (x : Outcome). Listed (x .number) (x .place) (readPlaces words)) (sym e) (read-numbers words room)
+
+-- .. and hromulice_write_command.
+pub write-answers : (bytes room : List ℕ) (r : Outcome) → r ≡ outcomeOf (writeAnswer bytes room) → Listed (r .number) (r .place) (writePlaces bytes)
+write-answers bytes room r e = subst (λ (x : Outcome). Listed (x .number) (x .place) (writePlaces bytes)) (sym e) (write-numbers bytes room)

@@ -34,12 +34,12 @@ rules-within (Known Macroblock n) p ws = macroblock-within p ws
 rules-within (Carried n) p ws = tt
 rules-within Unknown p ws = tt
 
--- A command is refused with a number from 1 to 12, at one of its words 0 to 8.
-pub stops-within : (h : Header) (p : Progress) (ws : List ℕ) (n w : ℕ) → judge h p ws ≡ Stop n w → (1 ≤ n) × (n ≤ 12) × (w ≤ 8)
+-- A command is refused with a number from 2 to 12, at one of its words 0 to 8.
+pub stops-within : (h : Header) (p : Progress) (ws : List ℕ) (n w : ℕ) → judge h p ws ≡ Stop n w → (2 ≤ n) × (n ≤ 12) × (w ≤ 8)
 unfolding judge
 stops-within h p ws n w e = by (judged (rulesOf h p ws)) refl e
   where
-    by : (a : Answer) → judged (rulesOf h p ws) ≡ a → concluded a (nextOf h p ws) ≡ Stop n w → (1 ≤ n) × (n ≤ 12) × (w ≤ 8)
+    by : (a : Answer) → judged (rulesOf h p ws) ≡ a → concluded a (nextOf h p ws) ≡ Stop n w → (2 ≤ n) × (n ≤ 12) × (w ≤ 8)
     by Accepted s e = let z : _≡_ {A = ℕ} 0 1 = cc in absurd (omega arith)
     by (Refused m q) s e = let i : q ≡ w = cc in let j : m ≡ n = cc in rw (i, j) at (judged-within 12 8 (rulesOf h p ws) (rules-within h p ws) s)
 
