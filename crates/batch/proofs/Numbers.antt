@@ -3,20 +3,21 @@ use mathlib.Core.Bool.{Bool, true, false, cond}
 use mathlib.Core.List.{List, [], _∷_, _++_, foldl}
 use mathlib.Core.Logic.{_⊎_, inl, inr}
 use mathlib.Core.Path.{_≡_, refl, sym, ap, _∙_}
-use Prim.Native.Nat.{ℕ, _+_, _≤_}
+use Prim.Native.Nat.{ℕ, suc, _+_, _≤_, _<_}
+use native.Mathlib.Nat.{add-zero, zero-add}
 use native.Mathlib.Omega.{arith}
+use borrow.Author.Tests.{ltb-false}
 use lib.Dec.{eqb, leb, ltb}
-use lib.ListN.{length}
+use lib.ListN.{length, length-append}
 use Rattle.headers.specs.Headers.{headerOf, wordsIn}
 use Rattle.headers.specs.Words.{wordAt}
 use Rattle.headers.specs.declared.Header.{Header}
 use Rattle.progress.specs.Buffers.{Buffer, source, reconstructed, forward, backward, bufferNumber}
-use Rattle.progress.specs.Progress.{fresh}
 use Rattle.progress.specs.declared.Progress.{Progress}
 use Rattle.progress.specs.declared.Verdict.{Verdict}
 use Rattle.progress.specs.declared.Verdict.the-variants.{Next, Stop}
 use Rattle.sequence.specs.Judging.{judge}
-use Rattle.sequence.proofs.JudgingLaws.{stops-within}
+use Rattle.sequence.proofs.JudgingLaws.{stops-within, stops-inside}
 use Rattle.batch.specs.Numbers.{RefusedBy, run-out, broken, too-many, CheckedBy, accepted, refused, short-buffer}
 use Rattle.batch.specs.Reports.{reportNumber, reportPlace, reportable, measured, ending, concluding, verdictOf, report}
 use Rattle.batch.specs.Walk.{Walk, going, stopped, limit, after, step, start}
@@ -24,27 +25,30 @@ use Rattle.batch.specs.declared.Lengths.{Lengths}
 use Rattle.batch.specs.declared.Report.the-variants as answers
 use Rattle.batch.specs.declared.Reported.{Reported}
 use Rattle.batch.proofs.Measuring.{outcome}
-use Rattle.batch.proofs.WalkLaws.{counted}
 use Rattle.batch.specs.Outcomes.{Outcome, enough, short}
 
--- the numbers with which a walk stops
-abbrev StopNumber : ℕ → ℕ → Type 0
-StopNumber n place = ((2 ≤ n) × (n ≤ 12)) ⊎ ((n ≡ 27) × (place ≡ limit))
+-- the numbers with which a walk stops within so many words, and where
+abbrev StopNumber : ℕ → ℕ → ℕ → Type 0
+StopNumber k n place = ((2 ≤ n) × (n ≤ 12) × (place < k)) ⊎ ((n ≡ 27) × (place ≡ limit))
 
-abbrev Numbered : Walk → Type 0
-Numbered (going at p g) = Unit {0}
-Numbered (stopped n place) = StopNumber n place
+abbrev Numbered : ℕ → Walk → Type 0
+Numbered k (going at p g) = at + length g ≡ k
+Numbered k (stopped n place) = StopNumber k n place
+
+later : (k n place : ℕ) → StopNumber k n place → StopNumber (k + 1) n place
+later k n place (inl h) = inl (h .0, h .1, omega (arith, h .2))
+later k n place (inr h) = inr h
 
 -- a command that was judged
-numbered-after : (at next : ℕ) (v : Verdict) → ((n w : ℕ) → v ≡ Stop n w → (2 ≤ n) × (n ≤ 12) × (w ≤ 8)) → Numbered (after at next v)
+numbered-after : (k at next : ℕ) (v : Verdict) → next ≡ k → ((n w : ℕ) → v ≡ Stop n w → (2 ≤ n) × (n ≤ 12) × (at + w < k)) → Numbered k (after at next v)
 unfolding after
-numbered-after at next (Next q) h = tt
-numbered-after at next (Stop n w) h = let k = h n w refl in inl (k .0, k .1)
+numbered-after k at next (Next q) e h = omega arith
+numbered-after k at next (Stop n w) e h = inl (h n w refl)
 
-numbered-step : (s : Walk) (w : ℕ) → Numbered s → Numbered (step s w)
+numbered-step : (k : ℕ) (s : Walk) (w : ℕ) → Numbered k s → Numbered (k + 1) (step s w)
 unfolding step
-numbered-step (stopped n place) w k = k
-numbered-step (going at p g) w k = by (leb limit (at + length g)) (p .stage .ended) (eqb w 0) (eqb (wordsIn h) 0) (ltb (length g+) (wordsIn h))
+numbered-step k (stopped n place) w h = later k n place h
+numbered-step k (going at p g) w e = by (leb limit (at + length g)) (p .stage .ended) (eqb w 0) (eqb (wordsIn h) 0) (ltb (length g+) (wordsIn h)) refl refl
   where
     g+ : List ℕ
     g+ = g ++ (w ∷ [])
@@ -52,40 +56,48 @@ numbered-step (going at p g) w k = by (leb limit (at + length g)) (p .stage .end
     h : Header
     h = headerOf (wordAt (g ++ (w ∷ [])) 0)
 
-    by : (full ended z unknown more : Bool)
-        → Numbered (cond full (stopped 27 limit)
+    all : at + length g+ ≡ k + 1
+    all = omega (arith, length-append g (w ∷ []))
+
+    by : (full ended z unknown more : Bool) → eqb (wordsIn h) 0 ≡ unknown → ltb (length g+) (wordsIn h) ≡ more
+        → Numbered (k + 1) (cond full (stopped 27 limit)
         (cond ended
         (cond z (going (at + length g + 1) p []) (stopped 12 (at + length g)))
         (cond unknown (stopped 2 at) (cond more (going at p g+) (after at (at + length g+) (judge h p g+))))))
-    by true ended z unknown more = inr (refl, refl)
-    by false true true unknown more = tt
-    by false true false unknown more = inl (omega arith, omega arith)
-    by false false z true more = inl (omega arith, omega arith)
-    by false false z false true = tt
-    by false false z false false = numbered-after at (at + length g+) (judge h p g+) (stops-within h p g+)
+    by true ended z unknown more u m = inr (refl, refl)
+    by false true true unknown more u m = omega arith
+    by false true false unknown more u m = inl (omega arith, omega arith, omega arith)
+    by false false z true more u m = inl (omega arith, omega arith, omega arith)
+    by false false z false true u m = all
+    by false false z false false u m =
+        let whole = ltb-false (length g+) (wordsIn h) m in
+        numbered-after (k + 1) at (at + length g+) (judge h p g+) all
+        (λ n x j. let near = stops-within h p g+ n x j in
+        let own = stops-inside (wordAt g+ 0) p g+ n x j u in
+        (near .0, near .1, omega (arith, own, whole, all)))
 
-numbered-fold : (s : Walk) (ws : List ℕ) → Numbered s → Numbered (foldl step s ws)
-numbered-fold s [] k = k
-numbered-fold s (w ∷ ws) k = numbered-fold (step s w) ws (numbered-step s w k)
+numbered-fold : (k : ℕ) (s : Walk) (ws : List ℕ) → Numbered k s → Numbered (k + length ws) (foldl step s ws)
+numbered-fold k s [] h = rw add-zero h
+numbered-fold k s (w ∷ ws) h =
+    let e : k + suc (length ws) ≡ k + 1 + length ws = omega arith in
+    rw e (numbered-fold (k + 1) (step s w) ws (numbered-step k s w h))
 
 -- A batch is refused by one of its rules, by 27, or, where it lacks END, by 1 at the words given.
 pub refused-by : (ws : List ℕ) (n place : ℕ) → verdictOf ws ≡ Stop n place → RefusedBy (length ws) n place
 unfolding verdictOf
-refused-by ws n place e = by (foldl step start ws) refl (numbered-fold start ws tt) e
+refused-by ws n place e = by (foldl step start ws) (rw zero-add at (numbered-fold 0 start ws refl)) e
   where
     lacks : (p : Progress) (at : ℕ) → at ≡ length ws → (ended : Bool) → cond ended (Next p) (Stop 1 at) ≡ Stop n place → RefusedBy (length ws) n place
     lacks p at all true e = let z : _≡_ {A = ℕ} 0 1 = cc in absurd (omega arith)
     lacks p at all false e = let i : 1 ≡ n = cc in let j : at ≡ place = cc in run-out (sym i) (sym j ∙ all)
 
-    stops : StopNumber n place → RefusedBy (length ws) n place
-    stops (inl k) = broken (k .0) (k .1)
+    stops : StopNumber (length ws) n place → RefusedBy (length ws) n place
+    stops (inl k) = broken (k .0) (k .1) (k .2)
     stops (inr k) = too-many (k .0) (k .1)
 
-    by : (s : Walk) → foldl step start ws ≡ s → Numbered s → ending s ≡ Stop n place → RefusedBy (length ws) n place
-    by (stopped m q) w k e = let i : m ≡ n = cc in let j : q ≡ place = cc in stops (rw (i, j) at k)
-    by (going at p g) w k e =
-        let all = counted 0 fresh [] ws at p g w in
-        lacks p (at + length g) (omega arith) (p .stage .ended) e
+    by : (s : Walk) → Numbered (length ws) s → ending s ≡ Stop n place → RefusedBy (length ws) n place
+    by (stopped m q) k e = let i : m ≡ n = cc in let j : q ≡ place = cc in stops (rw (i, j) at k)
+    by (going at p g) k e = lacks p (at + length g) k (p .stage .ended) e
 
 -- The number is none but 1 to 12 and 27.
 pub verdict-numbers : (ws : List ℕ) (n place : ℕ) → verdictOf ws ≡ Stop n place → ((1 ≤ n) × (n ≤ 12)) ⊎ (n ≡ 27)
@@ -93,7 +105,7 @@ verdict-numbers ws n place e = by (refused-by ws n place e)
   where
     by : RefusedBy (length ws) n place → ((1 ≤ n) × (n ≤ 12)) ⊎ (n ≡ 27)
     by (run-out i at) = inl (omega arith, omega arith)
-    by (broken low high) = inl (omega arith, high)
+    by (broken low high at) = inl (omega arith, high)
     by (too-many i at) = inr i
 
 -- What the check answers.
@@ -126,7 +138,7 @@ accepted-by-0 l ws h = by (verdictOf ws) refl h
 
     stopped-0 : (n place : ℕ) → RefusedBy (length ws) n place → n ≡ 0 → ⊥
     stopped-0 n place (run-out i at) h = omega arith
-    stopped-0 n place (broken low high) h = omega arith
+    stopped-0 n place (broken low high at) h = omega arith
     stopped-0 n place (too-many i at) h = omega arith
 
     by : (v : Verdict) → verdictOf ws ≡ v → reportNumber (concluding l v) ≡ 0 → (r : Reported) × (concluding l v ≡ answers.Accepted r)

@@ -14,7 +14,7 @@ use Rattle.headers.specs.declared.Header.the-variants.{Known, Carried, U
 use Rattle.headers.specs.declared.Opcode.{Opcode}
 use Rattle.headers.specs.declared.Opcode.the-variants.{Noop, End, Surface, Picture, SliceGroup, Macroblock}
 
-abbrev every : (Header → Bool) → List Row → Bool
+abbrev pub every : (Header → Bool) → List Row → Bool
 every f [] = f Unknown
 every f (r ∷ rs) = f (r .begins) && every f rs
 
@@ -25,7 +25,8 @@ rows f (r ∷ rs) w t =
     let h = both (f (r .begins)) (every f rs) t in
     either (λ (x : Header). T (f x)) (eqb w (r .header)) (r .begins) (lookUp rs w) (h .0) (rows f rs w (h .1))
 
-every-header : (f : Header → Bool) (w : ℕ) → T (unfold table in every f table) → T (f (headerOf w))
+-- What every row of the table keeps, and 'none', holds of every word's header.
+pub every-header : (f : Header → Bool) (w : ℕ) → T (unfold table in every f table) → T (f (headerOf w))
 unfolding headerOf table
 every-header f w t = rows f table w t
 

@@ -15,12 +15,12 @@ use Rattle.picture.specs.Surfaces.{surfaceRules}
 use Rattle.picture.specs.declared.Frame.{Frame}
 use Rattle.answers.specs.Tables.{within}
 
--- They refuse with numbers 1 to 12, at words 1 to 4.
-pub surface-within : (ws : List ℕ) → T (within 12 8 (surfaceRules ws))
+-- They refuse with numbers from 2 to 12, at words up to 4.
+pub surface-within : (ws : List ℕ) → T (within 12 4 (surfaceRules ws))
 unfolding surfaceRules
 surface-within ws = tt
 
-pub picture-within : (f : Frame) (ws : List ℕ) → T (within 12 8 (pictureRules f ws))
+pub picture-within : (f : Frame) (ws : List ℕ) → T (within 12 4 (pictureRules f ws))
 unfolding pictureRules
 picture-within f ws = tt
 
