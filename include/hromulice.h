@@ -159,7 +159,8 @@ hromulice_answer hromulice_write_command(const uint8_t *record, size_t bytes, ui
 /* Begins a check. Writes the whole state and reads nothing of it. */
 void hromulice_begin(hromulice_lengths lengths, hromulice_state *state);
 
-/* Takes the next `count` words of the batch. They are not needed after the call. */
+/* Takes the next `count` words of the batch. They are not needed after the call. After a refusal by another number than 1 and 13, which
+ * more words can change, the state stays as it is, every word of it, whatever is handed over. */
 void hromulice_hand_over(hromulice_state *state, const uint32_t *part, size_t count);
 
 /* The report on all words so far. The state stays as it is, so that more parts can follow. */

@@ -22,12 +22,15 @@ pub extern "C" fn hromulice_begin(lengths: Lengths, memory: &mut [u64; memory::W
     *memory = memory_code::state_words(parts_code::begin(lengths));
 }
 
-// The next part. After a refusal the answer stays.
+// The next part. A check that has stopped leaves the memory as it is.
 #[no_mangle]
 pub extern "C" fn hromulice_hand_over(memory: &mut [u64; memory::WORDS], part: &[u32])
     ensures { λ _. ⌜ MemoryHanded (now (memory .entry)) (now (part .entry)) (now (memory .exit)) ⌝ }
 {
     let state = memory_code::state_in(memory);
+    if state.stopped {
+        return;
+    }
     *memory = memory_code::state_words(parts_code::hand_over(state, part));
 }
 

@@ -1,19 +1,36 @@
 -- A batch in parts through lent memory is answered as the whole batch.
+use mathlib.Core.Bool.{true}
 use mathlib.Core.List.{List, flatten}
 use mathlib.Core.Path.{_≡_, refl, ap, _∙_}
 use Prim.Native.Nat.{ℕ}
 use lib.ListN.{length}
-use Rattle.lists.proofs.Stepping.{along-view}
+use Rattle.lists.specs.Calls.{Along}
+use Rattle.lists.proofs.Stepping.{along}
 use Rattle.batch.specs.Numbers.{CheckedBy}
 use Rattle.batch.specs.Reports.{report}
 use Rattle.batch.specs.declared.Lengths.{Lengths}
 use Rattle.parts.specs.States.{Handed}
-use Rattle.parts.proofs.Parts.{parts-whole}
-use Rattle.interface.specs.Handing.{summaryIn, MemoryHandedOver}
+use Rattle.parts.proofs.Parts.{stopped-stays, parts-whole}
+use Rattle.interface.specs.Handing.{MemoryHanded, summaryIn, MemoryHandedOver}
 use Rattle.memory.specs.Memory.{stateIn}
 use Rattle.interface.specs.Summaries.{summaryOf}
 use Rattle.interface.specs.declared.Summary.{Summary}
 use Rattle.interface.proofs.SummaryLaws.{check-answers}
+
+-- Memory of a check that has stopped meets the promise as it stands.
+pub stopped-handed : (m part : List ℕ) → stateIn m .stopped ≡ true → MemoryHanded m part m
+stopped-handed m part e = record { handed = (stopped-stays (stateIn m) part e, refl); stays = λ _. refl }
+
+-- Parts that are handed over to memory are handed over to the states that it stands for.
+states-handed : (m : List ℕ) (parts : List (List ℕ)) (r : List ℕ) → Along MemoryHanded m parts r → Along Handed (stateIn m) parts (stateIn r)
+states-handed =
+    along MemoryHanded (λ m parts r. Along Handed (stateIn m) parts (stateIn r)) (λ m. refl) (λ m part n parts r one others. (stateIn n, one .handed, others))
+
+-- A check that has stopped leaves its memory as it was, whatever parts are handed over.
+pub refused-stays : (m : List ℕ) (parts : List (List ℕ)) (r : List ℕ) → Along MemoryHanded m parts r → stateIn m .stopped ≡ true → r ≡ m
+refused-stays =
+    along MemoryHanded (λ m parts r. stateIn m .stopped ≡ true → r ≡ m) (λ m e. refl)
+    (λ m part n parts r one others e. let same = one .stays e in others (ap (λ (x : List ℕ). stateIn x .stopped) same ∙ e) ∙ same)
 
 -- Document 01's claim on lists of parts, of the exported functions: for all lengths, all lists of parts and every sequence of memories
 -- that meets their contracts, what is reported is the report of the whole batch.
@@ -21,7 +38,7 @@ pub memory-whole : (l : Lengths) (parts : List (List ℕ)) (m : List ℕ) (r : S
     → r ≡ summaryOf (report l (flatten parts))
 unfolding summaryIn
 memory-whole l parts m r h reported =
-    reported ∙ ap summaryOf (parts-whole l parts (stateIn m) _ (stateIn (h .0), h .1, along-view stateIn Handed (h .0) parts m (h .2)) refl)
+    reported ∙ ap summaryOf (parts-whole l parts (stateIn m) _ (stateIn (h .0), h .1, states-handed (h .0) parts m (h .2)) refl)
 
 -- So hromulice_report_of gives the numbers of the check.
 pub report-answers : (l : Lengths) (parts : List (List ℕ)) (m : List ℕ) (r : Summary) → MemoryHandedOver l parts m → r ≡ summaryIn m

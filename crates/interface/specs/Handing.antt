@@ -2,7 +2,9 @@
 -- the memory what `parts` promises of the states that it stands for, before and after. No content is required.
 -- Proved: against the report of the whole batch, by `memory-whole` (proofs/InParts.antt).
 use Prim.Native.Nat.{ℕ}
+use mathlib.Core.Bool.{true}
 use mathlib.Core.List.{List}
+use mathlib.Core.Path.{_≡_}
 use Rattle.lists.specs.Calls.{Along}
 use Rattle.batch.specs.Reports.{finish}
 use Rattle.batch.specs.declared.Lengths.{Lengths}
@@ -15,9 +17,10 @@ use Rattle.interface.specs.declared.Summary.{Summary}
 abbrev pub MemoryBegun : Lengths → List ℕ → Type 0
 MemoryBegun l m = Begun l (stateIn m)
 
--- The memory after a part.
-abbrev pub MemoryHanded : List ℕ → List ℕ → List ℕ → Type 0
-MemoryHanded m part r = Handed (stateIn m) part (stateIn r)
+-- The memory `r` after a part that was handed over to the memory `m`. A check that has stopped leaves every word of it as it was.
+pub record MemoryHanded (m part r : List ℕ) : Type 0 where
+  pub handed : Handed (stateIn m) part (stateIn r)
+  pub stays : stateIn m .stopped ≡ true → r ≡ m
 
 -- The answer to all words so far.
 unfoldable pub summaryIn : List ℕ → Summary

@@ -1,14 +1,23 @@
 -- A batch in parts is answered as the whole batch.
+use mathlib.Core.Bool.{true}
 use mathlib.Core.List.{List, [], _++_, foldl, flatten}
-use mathlib.Core.Path.{_≡_, refl, _∙_, ap}
+use mathlib.Core.Path.{_≡_, refl, sym, _∙_, ap}
 use Prim.Native.Nat.{ℕ}
 use Rattle.lists.proofs.Stepping.{along-whole, folds-both}
 use Rattle.batch.specs.Reports.{reportNumber, reportPlace, reportedOf, finish, verdictOf, report}
-use Rattle.batch.specs.Walk.{Walk, step}
+use Rattle.batch.specs.Walk.{Walk, stopped, step}
 use Rattle.batch.specs.declared.Lengths.{Lengths}
 use Rattle.batch.specs.declared.Report.{Report}
+use Rattle.batch.proofs.WalkLaws.{stays}
 use Rattle.parts.specs.States.{walkIn, Handed, Answered, HandedOver}
 use Rattle.parts.specs.declared.State.{State}
+
+-- A check that has stopped takes no more words.
+pub stopped-stays : (s : State) (ws : List ℕ) → s .stopped ≡ true → walkIn s ≡ foldl step (walkIn s) ws
+unfolding walkIn
+stopped-stays s ws e =
+    let is : walkIn s ≡ stopped (s .number) (s .place) = simp e in
+    rw is (sym (stays (s .number) (s .place) ws))
 
 -- two parts, one after the other, are one part of both, and nothing changes without a part
 handed-none : (s : State) → Handed s [] s

@@ -20,9 +20,10 @@ use Rattle.sequence.specs.Judging.{judge}
 use Rattle.batch.specs.Walk.{Walk, going, stopped, limit, after, step, walkOf}
 use Rattle.batch.specs.declared.Walked.{Walked}
 use Rattle.batch.specs.declared.Walked.the-variants.{Going}
-use Rattle.batch.proofs.WalkLaws.{stays, counted, within-limit, used-within, command, Short, left-short, short-few, resumed}
+use Rattle.batch.proofs.WalkLaws.{counted, within-limit, used-within, command, Short, left-short, short-few, resumed}
 use Rattle.parts.specs.States.{gathered, walkIn}
 use Rattle.parts.specs.declared.State.{State}
+use Rattle.parts.proofs.Parts.{stopped-stays}
 
 -- how many words the command asks for whose first word is in the buffer
 abbrev pub asked : List ℕ → ℕ
@@ -166,14 +167,6 @@ completed at p ws at' p' g' e low some size came =
 pub walk-going : (s : State) → s .stopped ≡ false → walkIn s ≡ going (s .at) (s .progress) (gathered s)
 unfolding walkIn
 walk-going s e = simp e
-
-pub walk-stopped : (s : State) → s .stopped ≡ true → walkIn s ≡ stopped (s .number) (s .place)
-unfolding walkIn
-walk-stopped s e = simp e
-
--- A stopped check takes no more words.
-pub stopped-stays : (s : State) (ws : List ℕ) → s .stopped ≡ true → walkIn s ≡ foldl step (walkIn s) ws
-stopped-stays s ws e = rw (walk-stopped s e) (sym (stays (s .number) (s .place) ws))
 
 -- A state that holds nothing goes on from the beginning of the command in progress.
 pub from-none : (s : State) (ws : List ℕ) → s .stopped ≡ false → gathered s ≡ []

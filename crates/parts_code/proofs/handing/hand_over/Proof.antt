@@ -6,7 +6,8 @@ use borrow.Author.Needs.{needs}
 use lib.ListN.{length}
 use Rattle.lists.proofs.Slices.{no-length}
 use Rattle.parts.specs.States.{gathered}
-use Rattle.parts_code.proofs.HeldLaws.{stopped-stays, from-none}
+use Rattle.parts.proofs.Parts.{stopped-stays}
+use Rattle.parts_code.proofs.HeldLaws.{from-none}
 use Rattle.parts_code.proofs.handing.hand_over.Statement.{statement}
 use Rattle.parts_code.proofs.handing.hand_over.Tie as tie
 
