@@ -1,4 +1,5 @@
 -- for the crates above
+pub mod CommandWords
 pub mod CutLaws
 pub mod Gathering
 pub mod ListLaws

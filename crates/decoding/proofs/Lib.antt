@@ -2,6 +2,7 @@
 pub mod DecodingLaws
 pub mod DecodingLengths
 pub mod Numbers
+pub mod WaysBack
 -- for its functions alone
 pub mod LogLaws
 pub mod Outcomes

@@ -1,3 +1,4 @@
 pub mod Cases
 pub mod Logs
 pub mod Numbers
+pub mod WaysBack

@@ -1,0 +1,31 @@
+-- From the log of a batch back to its commands. Demand 2: "either way back gives the same bits".
+-- Proved: `decoded-back` (proofs/WaysBack.antt), of every batch that is decoded.
+use Prim.Native.Nat.{ℕ, zero, suc, _*_, _≤_, _<_}
+use mathlib.Core.List.{List, [], _∷_}
+use mathlib.Core.Path.{_≡_}
+use lib.ListN.{length, getD, take, drop}
+use Rattle.answers.specs.declared.Answer.the-variants.{Accepted}
+use Rattle.commands.specs.Commands.{commandsOf, macroblocksIn}
+use Rattle.records.specs.Alone.{writeAnswer, writeRoom}
+use Rattle.records.specs.Layout.{recordLength}
+
+-- The k-th record of a log: "each is written at its own 24-byte place of the lent log".
+abbrev pub recordIn : List ℕ → ℕ → List ℕ
+recordIn log k = take recordLength (drop (recordLength * k) log)
+
+-- The nine words that stand in front of lent words after the k-th record of a log was written there.
+abbrev pub commandFrom : List ℕ → List ℕ → ℕ → List ℕ
+commandFrom log lent k = take 9 (writeRoom (recordIn log k) lent)
+
+-- The first n of a row of things.
+abbrev pub firstOf : {A : Type 0} → (ℕ → A) → ℕ → List A
+firstOf thing zero = []
+firstOf thing (suc n) = thing 0 ∷ firstOf (λ k. thing (suc k)) n
+
+-- Each record of a log, written alone into any nine words or more, gives the batch's own MACROBLOCK command; one after the other they
+-- give all of them.
+pub record WritesBack (ws log : List ℕ) : Type 0 where
+  pub accepted : (k : ℕ) (lent : List ℕ) → k < length (macroblocksIn (commandsOf ws)) → 9 ≤ length lent → writeAnswer (recordIn log k) lent ≡ Accepted
+  pub command : (k : ℕ) (lent : List ℕ) → k < length (macroblocksIn (commandsOf ws)) → 9 ≤ length lent
+      → commandFrom log lent k ≡ getD (macroblocksIn (commandsOf ws)) k []
+  pub commands : (lent : List ℕ) → 9 ≤ length lent → firstOf (commandFrom log lent) (length (macroblocksIn (commandsOf ws))) ≡ macroblocksIn (commandsOf ws)
