@@ -11,7 +11,7 @@ use Rattle.progress.specs.Buffers.{Buffer, source, reconstructed, forward, back
 use Rattle.progress.specs.declared.Progress.{Progress}
 use Rattle.progress.specs.declared.Verdict.{Verdict}
 use Rattle.progress.specs.declared.Verdict.the-variants.{Next, Stop}
-use Rattle.batch.specs.Demand.{KeepsOthers, IsLength, reportedFor, TooShort, AllEnough, NamesLowest, Demand3, Checked}
+use Rattle.batch.specs.Demand.{Reading, readingOf, KeepsOthers, IsLength, lengthFor, reportedFor, TooShort, AllEnough, NamesLowest, Demand3, Checked}
 use Rattle.batch.specs.Reports.{reportNumber, reportPlace, reportable, lengthIn, valuesOf, reportedOf, measured, concluding, verdictOf, report}
 use Rattle.batch.specs.Touched.{Touched}
 use Rattle.batch.specs.declared.Lengths.{Lengths}
@@ -25,15 +25,15 @@ use Rattle.batch.proofs.Runs.{gone-through}
 use Rattle.batch.specs.Outcomes.{Outcome, enough, short}
 
 -- A batch that passes keeps every rule.
-pub passed-keeps : (r : Report) → reportNumber r ≡ 0 → KeepsOthers r
+pub passed-keeps : (r : Report) → reportNumber r ≡ 0 → KeepsOthers (readingOf r)
 passed-keeps r e = record { none-to-12 = λ h i. omega arith; not-27 = λ h. omega arith }
 
 -- A batch that keeps every rule but the one on buffer length has come to its END.
-pub kept-verdict : (l : Lengths) (ws : List ℕ) → KeepsOthers (report l ws) → (p : Progress) × (verdictOf ws ≡ Next p)
+pub kept-verdict : (l : Lengths) (ws : List ℕ) → KeepsOthers (readingOf (report l ws)) → (p : Progress) × (verdictOf ws ≡ Next p)
 unfolding report
 kept-verdict l ws k = by (verdictOf ws) refl k
   where
-    by : (v : Verdict) → verdictOf ws ≡ v → KeepsOthers (concluding l v) → (p : Progress) × (verdictOf ws ≡ Next p)
+    by : (v : Verdict) → verdictOf ws ≡ v → KeepsOthers (readingOf (concluding l v)) → (p : Progress) × (verdictOf ws ≡ Next p)
     by (Next p) e k = (p, e)
     by (Stop n place) e k = absurd (broken (verdict-numbers ws n place e))
       where
@@ -95,31 +95,31 @@ module _ (ws : List ℕ) (v : Reported) (Room : Type 0) (settle : Report → Rep
   for b = reported-for v r b reports
 
   -- every buffer is long enough, and nothing else is refused
-  all-long : AllEnough r l → r ≡ settle (Accepted v)
+  all-long : AllEnough (readingOf r) l → r ≡ settle (Accepted v)
   all-long h = by (outcome v l)
     where
       by : Outcome v l → r ≡ settle (Accepted v)
       by (enough all m) = is ∙ ap settle m
       by (short c s low m) = absurd (let k = h c in let f = for c in omega arith)
 
-  passing : Room → AllEnough r l → reportNumber r ≡ 0
+  passing : Room → AllEnough (readingOf r) l → reportNumber r ≡ 0
   passing room h = by (settles .accepts v)
     where
       by : Accepts Room v (settle (Accepted v)) → reportNumber r ≡ 0
       by (inl s) = ap reportNumber (all-long h ∙ s)
       by (inr s) = absurd (s .0 room)
 
-  only : reportNumber r ≡ 0 → AllEnough r l
+  only : reportNumber r ≡ 0 → AllEnough (readingOf r) l
   only passed = by (outcome v l)
     where
-      by : Outcome v l → AllEnough r l
+      by : Outcome v l → AllEnough (readingOf r) l
       by (enough all m) = λ b. let k = all b in let f = for b in omega arith
       by (short c s low m) = absurd (let n = ap reportNumber (is ∙ ap settle m ∙ settles .keeps-13 (bufferNumber c) v) in omega (arith, n, passed))
 
-  names : (b : Buffer) → TooShort r l b → NamesLowest r l
+  names : (b : Buffer) → TooShort (readingOf r) l b → NamesLowest (readingOf r) l
   names b t = by (outcome v l)
     where
-      by : Outcome v l → NamesLowest r l
+      by : Outcome v l → NamesLowest (readingOf r) l
       by (enough all m) = absurd (let k = all b in let f = for b in omega arith)
       by (short c s low m) =
           let q = is ∙ ap settle m ∙ settles .keeps-13 (bufferNumber c) v in
@@ -134,7 +134,7 @@ module _ (ws : List ℕ) (v : Reported) (Room : Type 0) (settle : Report → Rep
 -- Demand 3 of an operation that answers so to a batch that keeps every rule but the one on buffer length.
 pub demand-by : (ws : List ℕ) (Room : Type 0) (settle : Report → Report) → Settles Room settle → (Answers : Lengths → Report → Type 0)
     → ((l : Lengths) (r : Report) → Answers l r → r ≡ settle (report l ws))
-    → (l₀ : Lengths) → KeepsOthers (report l₀ ws) → Demand3 ws Room Answers
+    → (l₀ : Lengths) → KeepsOthers (readingOf (report l₀ ws)) → Demand3 readingOf ws Room Answers
 demand-by ws Room settle settles Answers answers l₀ kept =
     record {
       exact = λ l r a b. subst (IsLength (Touched ws b)) (sym (for ws v Room settle settles l r (is l r a) b)) (exact-length (extentOf b (v .extents)) (exactly b));
@@ -158,7 +158,46 @@ demand-by ws Room settle settles Answers answers l₀ kept =
     exactly : (b : Buffer) → Exact (Touched ws b) (extentOf b (v .extents))
     exactly b = let w = gone-through ws (ended .0) (ended .1) in touched-exact b ws (w .0) (ended .0) (w .1) (w .2)
 
+-- Demand 3 of what is made of each answer, where it is read as the answer is.
+pub demand-through : {A B : Type 0} (read : A → Reading) (seen : B → Reading) (made : A → B) → ((a : A) → seen (made a) ≡ read a)
+    → (ws : List ℕ) (Room : Type 0) (Answers : Lengths → A → Type 0) (Gives : Lengths → B → Type 0)
+    → ((l : Lengths) (b : B) → Gives l b → (a : A) × Answers l a × (b ≡ made a))
+    → Demand3 read ws Room Answers → Demand3 seen ws Room Gives
+demand-through {A = A} {B = B} read seen made alike ws Room Answers Gives from d =
+    record {
+      exact = λ l r g b. subst (λ (x : Reading). IsLength (Touched ws b) (lengthFor b x)) (sym (same l r g)) (d .exact l (by l r g) (answers l r g) b);
+      passes = λ l r g room h. ap (λ (x : Reading). x .number) (same l r g) ∙ d .passes l (by l r g) (answers l r g) room (enough-by l r g h);
+      only-then = λ l r g e. subst (λ (x : Reading). AllEnough x l) (sym (same l r g)) (d .only-then l (by l r g) (answers l r g) (passed-by l r g e));
+      one-less = λ l r g b byte t h e.
+          d .one-less l (by l r g) (answers l r g) b byte t (h ∙ ap (lengthFor b) (same l r g)) (passed-by l r g e);
+      lowest-named = λ l r g b t.
+          subst (λ (x : Reading). NamesLowest x l) (sym (same l r g)) (d .lowest-named l (by l r g) (answers l r g) b (subst (λ (x : Reading). TooShort x l b) (same l r g) t));
+      same-lengths = λ l k r q g h.
+          ap (λ (x : Reading). x .reported) (same l r g)
+          ∙ d .same-lengths l k (by l r g) (by k q h) (answers l r g) (answers k q h)
+          ∙ sym (ap (λ (x : Reading). x .reported) (same k q h));
+      same-answer = λ l k r q g h i j.
+          from l r g .2
+          ∙ ap made (d .same-answer l k (by l r g) (by k q h) (answers l r g) (answers k q h) (enough-by l r g i) (enough-by k q h j))
+          ∙ sym (from k q h .2);
+    }
+  where
+    by : (l : Lengths) (r : B) → Gives l r → A
+    by l r g = from l r g .0
+
+    answers : (l : Lengths) (r : B) (g : Gives l r) → Answers l (from l r g .0)
+    answers l r g = from l r g .1
+
+    same : (l : Lengths) (r : B) (g : Gives l r) → seen r ≡ read (from l r g .0)
+    same l r g = ap seen (from l r g .2) ∙ alike (from l r g .0)
+
+    enough-by : (l : Lengths) (r : B) (g : Gives l r) → AllEnough (seen r) l → AllEnough (read (from l r g .0)) l
+    enough-by l r g h = subst (λ (x : Reading). AllEnough x l) (same l r g) h
+
+    passed-by : (l : Lengths) (r : B) (g : Gives l r) → seen r .number ≡ 0 → read (from l r g .0) .number ≡ 0
+    passed-by l r g e = sym (ap (λ (x : Reading). x .number) (same l r g)) ∙ e
+
 -- Demand 3 of the check whole: "Take any batch that keeps every rule but the one on buffer length, and any four buffer lengths beside
 -- it." That it keeps them is asked under some lengths, and the claims hold under all.
-pub demand-whole : (ws : List ℕ) (l₀ : Lengths) → KeepsOthers (report l₀ ws) → Demand3 ws (Unit {0}) (Checked ws)
+pub demand-whole : (ws : List ℕ) (l₀ : Lengths) → KeepsOthers (readingOf (report l₀ ws)) → Demand3 readingOf ws (Unit {0}) (Checked ws)
 demand-whole ws = demand-by ws (Unit {0}) (λ r. r) settles-nothing (Checked ws) (λ l r a. a)

@@ -11,10 +11,19 @@ use Rattle.batch.specs.Touched.{Touched}
 use Rattle.batch.specs.declared.Lengths.{Lengths}
 use Rattle.batch.specs.declared.Report.{Report}
 
+-- How an answer is read, of whichever type it is. Document 01: "the answer is the number, the place and all that is reported with them".
+pub record Reading : Type 0 where
+  pub number : ℕ
+  pub place : ℕ
+  pub reported : List ℕ
+
+abbrev pub readingOf : Report → Reading
+readingOf r = record { number = reportNumber r; place = reportPlace r; reported = reportedOf r }
+
 -- "any batch that keeps every rule but the one on buffer length". Document 01: "when none of 1 to 12 and 27 falls on it".
-pub record KeepsOthers (r : Report) : Type 0 where
-  pub none-to-12 : 1 ≤ reportNumber r → reportNumber r ≤ 12 → ⊥
-  pub not-27 : reportNumber r ≡ 27 → ⊥
+pub record KeepsOthers (a : Reading) : Type 0 where
+  pub none-to-12 : 1 ≤ a .number → a .number ≤ 12 → ⊥
+  pub not-27 : a .number ≡ 27 → ⊥
 
 -- "zero if the batch touches no byte of it, otherwise one more than the highest byte that any sample read or written by any
 -- macroblock occupies"
@@ -24,42 +33,45 @@ IsLength T n =
     ⊎ ((byte : ℕ) × T byte × ((other : ℕ) → T other → other ≤ byte) × (n ≡ byte + 1))
 
 -- The length that is reported for a buffer, and whether lengths are long enough, each or all.
+abbrev pub lengthFor : Buffer → Reading → ℕ
+lengthFor b a = getD (a .reported) (bufferNumber b) 0
+
 abbrev pub reportedFor : Buffer → Report → ℕ
-reportedFor b r = getD (reportedOf r) (bufferNumber b) 0
+reportedFor b r = lengthFor b (readingOf r)
 
-abbrev pub Enough : Report → Lengths → Buffer → Type 0
-Enough r l b = reportedFor b r ≤ lengthOf b l
+abbrev pub Enough : Reading → Lengths → Buffer → Type 0
+Enough a l b = lengthFor b a ≤ lengthOf b l
 
-abbrev pub TooShort : Report → Lengths → Buffer → Type 0
-TooShort r l b = lengthOf b l < reportedFor b r
+abbrev pub TooShort : Reading → Lengths → Buffer → Type 0
+TooShort a l b = lengthOf b l < lengthFor b a
 
-abbrev pub AllEnough : Report → Lengths → Type 0
-AllEnough r l = (b : Buffer) → Enough r l b
+abbrev pub AllEnough : Reading → Lengths → Type 0
+AllEnough a l = (b : Buffer) → Enough a l b
 
 -- A refusal by 13 that "names the lowest such buffer".
-pub record NamesLowest (r : Report) (l : Lengths) : Type 0 where
-  pub is-13 : reportNumber r ≡ 13
+pub record NamesLowest (a : Reading) (l : Lengths) : Type 0 where
+  pub is-13 : a .number ≡ 13
   pub named : Buffer
-  pub at-place : reportPlace r ≡ bufferNumber named
-  pub too-short : TooShort r l named
-  pub lowest : (b : Buffer) → bufferNumber b < bufferNumber named → Enough r l b
+  pub at-place : a .place ≡ bufferNumber named
+  pub too-short : TooShort a l named
+  pub lowest : (b : Buffer) → bufferNumber b < bufferNumber named → Enough a l b
 
--- `Answers l r`: the operation answers `r` to the batch `ws` beside lengths `l`. `Room`: what it lends is not too short.
-pub record Demand3 (ws : List ℕ) (Room : Type 0) (Answers : Lengths → Report → Type 0) : Type 0 where
+-- `Answers l r`: the operation answers `r` to the batch `ws` beside lengths `l`, which `read` reads. `Room`: what it lends is not too short.
+pub record Demand3 {A : Type 0} (read : A → Reading) (ws : List ℕ) (Room : Type 0) (Answers : Lengths → A → Type 0) : Type 0 where
   -- "The checker reports one length for each of the four picture buffers: zero if .., otherwise one more than the highest byte .."
-  pub exact : (l : Lengths) (r : Report) → Answers l r → (b : Buffer) → IsLength (Touched ws b) (reportedFor b r)
+  pub exact : (l : Lengths) (r : A) → Answers l r → (b : Buffer) → IsLength (Touched ws b) (lengthFor b (read r))
   -- "Short lent room apart, which is 14, the batch passes exactly when every buffer is at least as long as the length reported"
-  pub passes : (l : Lengths) (r : Report) → Answers l r → Room → AllEnough r l → reportNumber r ≡ 0
-  pub only-then : (l : Lengths) (r : Report) → Answers l r → reportNumber r ≡ 0 → AllEnough r l
+  pub passes : (l : Lengths) (r : A) → Answers l r → Room → AllEnough (read r) l → read r .number ≡ 0
+  pub only-then : (l : Lengths) (r : A) → Answers l r → read r .number ≡ 0 → AllEnough (read r) l
   -- "With one byte less than that in any buffer that is touched it is refused"
-  pub one-less : (l : Lengths) (r : Report) → Answers l r → (b : Buffer) (byte : ℕ) → Touched ws b byte → lengthOf b l + 1 ≡ reportedFor b r → reportNumber r ≡ 0 → ⊥
+  pub one-less : (l : Lengths) (r : A) → Answers l r → (b : Buffer) (byte : ℕ) → Touched ws b byte → lengthOf b l + 1 ≡ lengthFor b (read r) → read r .number ≡ 0 → ⊥
   -- "whenever any buffer is too short the refusal is 13 and names the lowest such buffer"
-  pub lowest-named : (l : Lengths) (r : Report) → Answers l r → (b : Buffer) → TooShort r l b → NamesLowest r l
+  pub lowest-named : (l : Lengths) (r : A) → Answers l r → (b : Buffer) → TooShort (read r) l b → NamesLowest (read r) l
   -- "Whatever the lengths beside the batch, the reported ones are the same."
-  pub same-lengths : (l k : Lengths) (r q : Report) → Answers l r → Answers k q → reportedOf r ≡ reportedOf q
+  pub same-lengths : (l k : Lengths) (r q : A) → Answers l r → Answers k q → read r .reported ≡ read q .reported
   -- "Under any two sets of lengths that are all long enough, the answer and the records are the same." For the records see
   -- decoding.
-  pub same-answer : (l k : Lengths) (r q : Report) → Answers l r → Answers k q → AllEnough r l → AllEnough q k → r ≡ q
+  pub same-answer : (l k : Lengths) (r q : A) → Answers l r → Answers k q → AllEnough (read r) l → AllEnough (read q) k → r ≡ q
 
 -- The check whole: by its contract it answers this.
 abbrev pub Checked : List ℕ → Lengths → Report → Type 0

@@ -9,7 +9,7 @@ use borrow.Author.Tests.{ltb-true}
 use lib.Dec.{ltb}
 use lib.ListN.{length}
 use Rattle.commands.specs.Commands.{batchPicture}
-use Rattle.batch.specs.Demand.{KeepsOthers, AllEnough, Demand3}
+use Rattle.batch.specs.Demand.{readingOf, KeepsOthers, AllEnough, Demand3}
 use Rattle.batch.specs.Reports.{report}
 use Rattle.batch.specs.declared.Lengths.{Lengths}
 use Rattle.batch.specs.declared.Report.{Report}
@@ -28,15 +28,15 @@ module _ (needed : ℕ) (log : List ℕ) where
       by false s e = inl refl
 
   -- a batch that keeps the other rules when it is decoded keeps them when it is checked
-  keeps : (r : Report) → KeepsOthers (roomed needed log r) → KeepsOthers r
+  keeps : (r : Report) → KeepsOthers (readingOf (roomed needed log r)) → KeepsOthers (readingOf r)
   keeps (Accepted e) k = passed-keeps (Accepted e) refl
   keeps (Short n place e) k = k
   keeps (Refused n place) k = k
 
 -- Demand 3 of decoding into any log: 13 comes before 14, and with 14 the same lengths are reported. That the batch keeps the other
 -- rules is asked under some lengths and some log.
-pub demand-decoding : (ws : List ℕ) (l₀ : Lengths) (log₀ : List ℕ) → KeepsOthers (decoded l₀ ws log₀)
-    → (log : List ℕ) → Demand3 ws (RoomIn log ws) (DecodedInto log ws)
+pub demand-decoding : (ws : List ℕ) (l₀ : Lengths) (log₀ : List ℕ) → KeepsOthers (readingOf (decoded l₀ ws log₀))
+    → (log : List ℕ) → Demand3 readingOf ws (RoomIn log ws) (DecodedInto log ws)
 unfolding decoded
 demand-decoding ws l₀ log₀ kept log =
     let needed = logLength (batchPicture ws .grid) in
@@ -44,8 +44,8 @@ demand-decoding ws l₀ log₀ kept log =
 
 -- "Under any two sets of lengths that are all long enough, the answer and the records are the same": the whole log afterwards, from the
 -- same log before.
-pub same-records : (ws log : List ℕ) (l k : Lengths) → KeepsOthers (decoded l ws log)
-    → AllEnough (decoded l ws log) l → AllEnough (decoded k ws log) k
+pub same-records : (ws log : List ℕ) (l k : Lengths) → KeepsOthers (readingOf (decoded l ws log))
+    → AllEnough (readingOf (decoded l ws log)) l → AllEnough (readingOf (decoded k ws log)) k
     → (decoded l ws log ≡ decoded k ws log) × (decodedLog l ws log ≡ decodedLog k ws log)
 unfolding decodedLog
 same-records ws log l k kept h i =

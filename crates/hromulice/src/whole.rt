@@ -2,15 +2,12 @@
 use crate::summaries;
 use batch::Lengths;
 use interface::Summary;
-ghost use mathlib.Core.Path.{_≡_};
-ghost use Rattle.batch.specs.Reports.{report};
-ghost use Rattle.decoding.specs.Logs.{decoded, decodedLog};
-ghost use Rattle.interface.specs.Summaries.{summaryOf};
+ghost use Rattle.interface.specs.Promises.{SummaryOfCheck, SummaryOfDecode};
 
 // The answer to a batch with four buffers of these lengths.
 #[no_mangle]
 pub extern "C" fn hromulice_check(words: &[u32], lengths: Lengths) -> Summary
-    ensures { λ r. ⌜ r ≡ summaryOf (report lengths (now (words .entry))) ⌝ }
+    ensures { λ r. ⌜ SummaryOfCheck (now (words .entry)) lengths r ⌝ }
 {
     summaries::summary_of(batch_code::check(words, lengths))
 }
@@ -18,7 +15,7 @@ pub extern "C" fn hromulice_check(words: &[u32], lengths: Lengths) -> Summary
 // The same, with the records of the batch's macroblocks written to the log.
 #[no_mangle]
 pub extern "C" fn hromulice_decode(words: &[u32], lengths: Lengths, log: &mut [u8]) -> Summary
-    ensures { λ r. ⌜ (r ≡ summaryOf (decoded lengths (now (words .entry)) (now (log .entry)))) × (now (log .exit) ≡ decodedLog lengths (now (words .entry)) (now (log .entry))) ⌝ }
+    ensures { λ r. ⌜ SummaryOfDecode (now (words .entry)) (now (log .entry)) lengths r (now (log .exit)) ⌝ }
 {
     summaries::summary_of(decoding_code::decode(words, lengths, log))
 }

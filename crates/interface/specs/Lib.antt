@@ -1,3 +1,4 @@
 pub mod Handing
+pub mod Promises
 pub mod Summaries
 pub mod Version

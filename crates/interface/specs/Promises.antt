@@ -1,0 +1,33 @@
+-- What the exported functions promise of their answers and of lent memory: their contracts say it by these definitions.
+-- To be believed: each says that a struct is the answer that the crates below define, and that lent memory is what they leave in it.
+use Prim.Native.Nat.{ℕ}
+use mathlib.Core.List.{List, [], _∷_, flatten}
+use mathlib.Core.Path.{_≡_}
+use Rattle.batch.specs.Demand.{Reading}
+use Rattle.batch.specs.Reports.{report}
+use Rattle.batch.specs.declared.Lengths.{Lengths}
+use Rattle.decoding.specs.Logs.{decoded, decodedLog}
+use Rattle.interface.specs.Handing.{summaryIn, MemoryHandedOver}
+use Rattle.interface.specs.Summaries.{summaryOf}
+use Rattle.interface.specs.declared.Summary.{Summary}
+
+-- A batch that is checked whole.
+abbrev pub SummaryOfCheck : List ℕ → Lengths → Summary → Type 0
+SummaryOfCheck ws l s = s ≡ summaryOf (report l ws)
+
+-- A batch that is checked in parts: some list of parts makes it up, memory was handed on along it, and this is reported from the last.
+abbrev pub SummaryInParts : List ℕ → Lengths → Summary → Type 0
+SummaryInParts ws l s = (parts : List (List ℕ)) × (flatten parts ≡ ws) × ((m : List ℕ) × MemoryHandedOver l parts m × (s ≡ summaryIn m))
+
+-- A batch that is decoded into the lent log `before`: the answer, and the whole log afterwards.
+abbrev pub SummaryOfDecode : List ℕ → List ℕ → Lengths → Summary → List ℕ → Type 0
+SummaryOfDecode ws before l s after = (s ≡ summaryOf (decoded l ws before)) × (after ≡ decodedLog l ws before)
+
+-- How a struct is read: its number, its place, and its lengths in the order of the buffers.
+abbrev pub summaryReading : Summary → Reading
+summaryReading s =
+    record {
+      number = s .number;
+      place = s .place;
+      reported = s .lengths .source ∷ s .lengths .reconstructed ∷ s .lengths .forward ∷ s .lengths .backward ∷ [];
+    }
