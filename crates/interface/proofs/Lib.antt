@@ -3,3 +3,4 @@ pub mod Demands
 pub mod InParts
 pub mod SummaryLaws
 pub mod VersionLaws
+pub mod WaysBack

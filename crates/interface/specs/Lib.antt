@@ -2,3 +2,4 @@ pub mod Handing
 pub mod Promises
 pub mod Summaries
 pub mod Version
+pub mod WaysBack

@@ -3,12 +3,14 @@
 use Prim.Native.Nat.{ℕ}
 use mathlib.Core.List.{List, [], _∷_, flatten}
 use mathlib.Core.Path.{_≡_}
+use Rattle.records.specs.Alone.{readAnswer, readRoom, writeAnswer, writeRoom}
 use Rattle.batch.specs.Demand.{Reading}
 use Rattle.batch.specs.Reports.{report}
 use Rattle.batch.specs.declared.Lengths.{Lengths}
 use Rattle.decoding.specs.Logs.{decoded, decodedLog}
 use Rattle.interface.specs.Handing.{summaryIn, MemoryHandedOver}
-use Rattle.interface.specs.Summaries.{summaryOf}
+use Rattle.interface.specs.Summaries.{summaryOf, outcomeOf}
+use Rattle.interface.specs.declared.Outcome.{Outcome}
 use Rattle.interface.specs.declared.Summary.{Summary}
 
 -- A batch that is checked whole.
@@ -22,6 +24,13 @@ SummaryInParts ws l s = (parts : List (List ℕ)) × (flatten parts ≡ ws) × (
 -- A batch that is decoded into the lent log `before`: the answer, and the whole log afterwards.
 abbrev pub SummaryOfDecode : List ℕ → List ℕ → Lengths → Summary → List ℕ → Type 0
 SummaryOfDecode ws before l s after = (s ≡ summaryOf (decoded l ws before)) × (after ≡ decodedLog l ws before)
+
+-- One command that is read into lent bytes, and one record that is written into lent words.
+abbrev pub CommandRead : List ℕ → List ℕ → Outcome → List ℕ → Type 0
+CommandRead ws before o after = (o ≡ outcomeOf (readAnswer ws before)) × (after ≡ readRoom ws before)
+
+abbrev pub RecordWritten : List ℕ → List ℕ → Outcome → List ℕ → Type 0
+RecordWritten bytes before o after = (o ≡ outcomeOf (writeAnswer bytes before)) × (after ≡ writeRoom bytes before)
 
 -- How a struct is read: its number, its place, and its lengths in the order of the buffers.
 abbrev pub summaryReading : Summary → Reading

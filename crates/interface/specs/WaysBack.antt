@@ -1,0 +1,21 @@
+-- From the log that the exported functions leave back to the batch's commands. Demand 2: "either way back gives the same bits".
+-- Proved: `c-decoded-back` (proofs/WaysBack.antt), of every batch that is decoded.
+use Prim.Native.Nat.{ℕ, _≤_, _<_}
+use mathlib.Core.List.{List, []}
+use mathlib.Core.Path.{_≡_}
+use lib.ListN.{length, getD, take}
+use Rattle.commands.specs.Commands.{commandsOf, macroblocksIn}
+use Rattle.decoding.specs.WaysBack.{recordIn}
+use Rattle.interface.specs.Promises.{RecordWritten}
+use Rattle.interface.specs.declared.Outcome.{Outcome}
+
+-- Whatever `hromulice_write_command` answers and leaves for the k-th record of a log, with nine words or more lent to it: 0, and in
+-- front the k-th MACROBLOCK command of the batch.
+pub record WrittenBack (ws : List ℕ) (k : ℕ) (o : Outcome) (words : List ℕ) : Type 0 where
+  pub accepted : o .number ≡ 0
+  pub command : take 9 words ≡ getD (macroblocksIn (commandsOf ws)) k []
+
+abbrev pub LogWritesBack : List ℕ → List ℕ → Type 0
+LogWritesBack ws log =
+    (k : ℕ) (lent : List ℕ) (o : Outcome) (words : List ℕ) → k < length (macroblocksIn (commandsOf ws)) → 9 ≤ length lent
+    → RecordWritten (recordIn log k) lent o words → WrittenBack ws k o words
