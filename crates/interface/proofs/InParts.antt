@@ -5,7 +5,7 @@ use mathlib.Core.Path.{_≡_, refl, ap, _∙_}
 use Prim.Native.Nat.{ℕ}
 use lib.ListN.{length}
 use Rattle.lists.specs.Calls.{Along}
-use Rattle.lists.proofs.Stepping.{along}
+use Rattle.lists.proofs.Stepping.{along, along-view}
 use Rattle.batch.specs.Numbers.{CheckedBy}
 use Rattle.batch.specs.Reports.{report}
 use Rattle.batch.specs.declared.Lengths.{Lengths}
@@ -21,11 +21,6 @@ use Rattle.interface.proofs.SummaryLaws.{check-answers}
 pub stopped-handed : (m part : List ℕ) → stateIn m .stopped ≡ true → MemoryHanded m part m
 stopped-handed m part e = record { handed = (stopped-stays (stateIn m) part e, refl); stays = λ _. refl }
 
--- Parts that are handed over to memory are handed over to the states that it stands for.
-states-handed : (m : List ℕ) (parts : List (List ℕ)) (r : List ℕ) → Along MemoryHanded m parts r → Along Handed (stateIn m) parts (stateIn r)
-states-handed =
-    along MemoryHanded (λ m parts r. Along Handed (stateIn m) parts (stateIn r)) (λ m. refl) (λ m part n parts r one others. (stateIn n, one .handed, others))
-
 -- A check that has stopped leaves its memory as it was, whatever parts are handed over.
 pub refused-stays : (m : List ℕ) (parts : List (List ℕ)) (r : List ℕ) → Along MemoryHanded m parts r → stateIn m .stopped ≡ true → r ≡ m
 refused-stays =
@@ -38,7 +33,8 @@ pub memory-whole : (l : Lengths) (parts : List (List ℕ)) (m : List ℕ) (r : S
     → r ≡ summaryOf (report l (flatten parts))
 unfolding summaryIn
 memory-whole l parts m r h reported =
-    reported ∙ ap summaryOf (parts-whole l parts (stateIn m) _ (stateIn (h .0), h .1, states-handed (h .0) parts m (h .2)) refl)
+    let handed = along-view stateIn MemoryHanded Handed (λ a part b one. one .handed) (h .0) parts m (h .2) in
+    reported ∙ ap summaryOf (parts-whole l parts (stateIn m) _ (stateIn (h .0), h .1, handed) refl)
 
 -- So hromulice_report_of gives the numbers of the check.
 pub report-answers : (l : Lengths) (parts : List (List ℕ)) (m : List ℕ) (r : Summary) → MemoryHandedOver l parts m → r ≡ summaryIn m

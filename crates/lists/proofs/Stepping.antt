@@ -1,6 +1,6 @@
 -- What is promised along a list of calls.
 use mathlib.Core.List.{List, [], _∷_, _++_, flatten, foldl, foldl-append}
-use mathlib.Core.Path.{_≡_, _∙_, sym, ap, subst}
+use mathlib.Core.Path.{_≡_, refl, _∙_, sym, ap, subst}
 use Rattle.lists.specs.Calls.{Along}
 
 -- What holds of no call, and of one call before others of which it holds, holds of every list of calls.
@@ -18,10 +18,11 @@ unfolding flatten
 along-whole Step none both = along Step (λ s parts r. Step s (flatten parts) r) none (λ s c t cs r one others. both s c t (flatten cs) r one others)
 
 -- Calls on something that stands for a state are calls on the states that it stands for.
-pub along-view : {M S C : Type 0} (view : M → S) (Step : S → C → S → Type 0) (m : M) (cs : List C) (r : M)
-    → Along (λ (a : M) (c : C) (b : M). Step (view a) c (view b)) m cs r → Along Step (view m) cs (view r)
-along-view view Step m [] r e = ap view e
-along-view view Step m (c ∷ cs) r h = (view (h .0), h .1, along-view view Step (h .0) cs r (h .2))
+pub along-view : {M S C : Type 0} (view : M → S) (Call : M → C → M → Type 0) (Step : S → C → S → Type 0)
+    → ((a : M) (c : C) (b : M) → Call a c b → Step (view a) c (view b))
+    → (m : M) (cs : List C) (r : M) → Along Call m cs r → Along Step (view m) cs (view r)
+along-view view Call Step seen =
+    along Call (λ m cs r. Along Step (view m) cs (view r)) (λ m. refl) (λ m c n cs r one others. (view n, seen m c n one, others))
 
 -- A state stands for a value (`view`) that each element changes by one step: two lists in a row are one list of both.
 pub folds-both : {S B A : Type 0} (view : S → B) (step : B → A → B) (s : S) (xs : List A) (t : S) (ys : List A) (r : S)
