@@ -6,20 +6,14 @@ use Rattle.batch.specs.Demand.{Reading, readingOf, KeepsOthers, AllEnough, Dema
 use Rattle.batch.specs.Reports.{report}
 use Rattle.batch.specs.declared.Lengths.{Lengths}
 use Rattle.batch.specs.declared.Report.{Report}
-use Rattle.batch.specs.declared.Report.the-variants.{Accepted, Short, Refused}
 use Rattle.batch.proofs.BufferLengths.{demand-through, demand-whole}
 use Rattle.decoding.specs.Logs.{decoded, DecodedInto, RoomIn}
 use Rattle.decoding.proofs.DecodingLengths.{demand-decoding, same-records}
-use Rattle.interface.specs.Promises.{SummaryOfCheck, SummaryInParts, SummaryOfDecode, summaryReading}
-use Rattle.interface.specs.Summaries.{summaryOf}
+use Rattle.interface.specs.Promises.{SummaryOfCheck, SummaryInParts, SummaryOfDecode}
+use Rattle.interface.specs.Summaries.{summaryOf, summaryReading}
 use Rattle.interface.specs.declared.Summary.{Summary}
 use Rattle.interface.proofs.InParts.{memory-whole}
-
--- The struct of a report is read as the report.
-pub summary-read : (r : Report) → summaryReading (summaryOf r) ≡ readingOf r
-summary-read (Accepted e) = refl
-summary-read (Short n place e) = refl
-summary-read (Refused n place) = refl
+use Rattle.interface.proofs.SummaryLaws.{summary-read}
 
 -- a batch that is seen to keep the other rules by a struct keeps them by its report
 kept-by : (s : Summary) (r : Report) → s ≡ summaryOf r → KeepsOthers (summaryReading s) → KeepsOthers (readingOf r)

@@ -11,7 +11,8 @@ use Rattle.records.specs.Alone.{readAnswer, writeAnswer}
 use Rattle.records.specs.Numbers.{readPlaces, writePlaces}
 use Rattle.records.proofs.Numbers.{read-numbers, write-numbers}
 use Rattle.batch.specs.Numbers.{CheckedBy}
-use Rattle.batch.specs.Reports.{reportNumber, reportPlace, reportedOf, report}
+use Rattle.batch.specs.Demand.{readingOf}
+use Rattle.batch.specs.Reports.{report}
 use Rattle.batch.specs.declared.Lengths.{Lengths}
 use Rattle.batch.specs.declared.Report.{Report}
 use Rattle.batch.specs.declared.Report.the-variants.{Accepted, Short, Refused}
@@ -19,15 +20,15 @@ use Rattle.batch.proofs.Numbers.{check-numbers}
 use Rattle.decoding.specs.Logs.{logLength, decoded}
 use Rattle.decoding.specs.Numbers.{DecodedBy}
 use Rattle.decoding.proofs.Numbers.{decode-numbers}
-use Rattle.interface.specs.Summaries.{summaryOf, outcomeOf, summaryFields, outcomeFields}
+use Rattle.interface.specs.Summaries.{summaryOf, outcomeOf, summaryReading, outcomeFields}
 use Rattle.interface.specs.declared.Outcome.{Outcome}
 use Rattle.interface.specs.declared.Summary.{Summary}
 
 -- They are document 01's number and place, and its four lengths in the order of the buffers.
-pub summary-fields : (r : Report) → summaryFields (summaryOf r) ≡ reportNumber r ∷ reportPlace r ∷ reportedOf r
-summary-fields (Accepted e) = refl
-summary-fields (Short n place e) = refl
-summary-fields (Refused n place) = refl
+pub summary-read : (r : Report) → summaryReading (summaryOf r) ≡ readingOf r
+summary-read (Accepted e) = refl
+summary-read (Short n place e) = refl
+summary-read (Refused n place) = refl
 
 pub outcome-fields : (a : Answer) → outcomeFields (outcomeOf a) ≡ answer.numberOf a ∷ answer.placeOf a ∷ []
 outcome-fields a = refl

@@ -4,7 +4,7 @@ use mathlib.Core.Path.{_≡_, sym, ap, _∙_}
 use Prim.Native.Nat.{ℕ, _≤_}
 use lib.ListN.{length, take}
 use Rattle.answers.specs.Answers.{numberOf}
-use Rattle.fields.proofs.LittleEndian.{Bytes}
+use Rattle.fields.specs.Bytes.{Bytes}
 use Rattle.macroblock.specs.Legal.{Words}
 use Rattle.records.specs.Alone.{readAnswer, readRoom, writeAnswer, writeRoom}
 use Rattle.records.specs.Layout.{recordLength}

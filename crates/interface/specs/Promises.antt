@@ -1,10 +1,9 @@
 -- What the exported functions promise of their answers and of lent memory: their contracts say it by these definitions.
 -- To be believed: each says that a struct is the answer that the crates below define, and that lent memory is what they leave in it.
 use Prim.Native.Nat.{ℕ}
-use mathlib.Core.List.{List, [], _∷_, flatten}
+use mathlib.Core.List.{List, flatten}
 use mathlib.Core.Path.{_≡_}
 use Rattle.records.specs.Alone.{readAnswer, readRoom, writeAnswer, writeRoom}
-use Rattle.batch.specs.Demand.{Reading}
 use Rattle.batch.specs.Reports.{report}
 use Rattle.batch.specs.declared.Lengths.{Lengths}
 use Rattle.decoding.specs.Logs.{decoded, decodedLog}
@@ -31,12 +30,3 @@ CommandRead ws before o after = (o ≡ outcomeOf (readAnswer ws before)) × (aft
 
 abbrev pub RecordWritten : List ℕ → List ℕ → Outcome → List ℕ → Type 0
 RecordWritten bytes before o after = (o ≡ outcomeOf (writeAnswer bytes before)) × (after ≡ writeRoom bytes before)
-
--- How a struct is read: its number, its place, and its lengths in the order of the buffers.
-abbrev pub summaryReading : Summary → Reading
-summaryReading s =
-    record {
-      number = s .number;
-      place = s .place;
-      reported = s .lengths .source ∷ s .lengths .reconstructed ∷ s .lengths .forward ∷ s .lengths .backward ∷ [];
-    }

@@ -1,9 +1,9 @@
 -- Answers as structs of numbers: document 01's number, place and lengths.
--- To be believed: the structs' fields. `summary-fields` and `outcome-fields` (proofs/SummaryLaws.antt) list them in their order.
+-- To be believed: the structs' fields. `summary-read` and `outcome-fields` (proofs/SummaryLaws.antt) read them in their order.
 use Rattle.answers.specs.Answers as answer
 use Rattle.answers.specs.declared.Answer.{Answer}
 use Rattle.progress.specs.Buffers.{source, reconstructed, forward, backward}
-use Rattle.batch.specs.Demand.{reportedFor}
+use Rattle.batch.specs.Demand.{Reading, reportedFor}
 use Rattle.batch.specs.Reports.{reportNumber, reportPlace}
 use Rattle.batch.specs.declared.Report.{Report}
 use Rattle.interface.specs.declared.Outcome.{Outcome}
@@ -30,9 +30,14 @@ summaryOf r =
 abbrev pub outcomeOf : Answer → Outcome
 outcomeOf a = record { number = answer.numberOf a; place = answer.placeOf a }
 
-abbrev pub summaryFields : Summary → List ℕ
-summaryFields s =
-    s .number ∷ s .place ∷ s .lengths .source ∷ s .lengths .reconstructed ∷ s .lengths .forward ∷ s .lengths .backward ∷ []
+-- How a struct is read: its number, its place, and its lengths in the order of the buffers.
+abbrev pub summaryReading : Summary → Reading
+summaryReading s =
+    record {
+      number = s .number;
+      place = s .place;
+      reported = s .lengths .source ∷ s .lengths .reconstructed ∷ s .lengths .forward ∷ s .lengths .backward ∷ [];
+    }
 
 abbrev pub outcomeFields : Outcome → List ℕ
 outcomeFields o = o .number ∷ o .place ∷ []

@@ -11,7 +11,8 @@ use Rattle.answers.specs.Answers.{Rule, numberOf, judged, next}
 use Rattle.answers.specs.Lending.{roomFor}
 use Rattle.answers.specs.declared.Answer.{Answer}
 use Rattle.answers.specs.declared.Answer.the-variants.{Accepted, Refused}
-use Rattle.answers.proofs.Judging.{within, judged-within, within-both}
+use Rattle.answers.specs.Tables.{within}
+use Rattle.answers.proofs.Judging.{judged-within, within-both}
 use Rattle.headers.specs.Headers.{macroblockHeader}
 use Rattle.headers.specs.Words.{wordAt}
 use Rattle.macroblock.specs.Rules.{keptBy, commandRules}
@@ -42,7 +43,7 @@ judged-numbered m n rs t = by (judged rs) refl
   where
     by : (a : Answer) → judged rs ≡ a → Numbered a
     by Accepted e = tt
-    by (Refused k p) e = judged-within m n rs t e .0
+    by (Refused k p) e = let two = judged-within m n rs t e .0 in omega arith
 
 -- a command
 pub read-by-0 : (ws room : List ℕ) → numberOf (readAnswer ws room) ≡ 0 → readAnswer ws room ≡ Accepted
