@@ -56,7 +56,7 @@ pub record NamesLowest (a : Reading) (l : Lengths) : Type 0 where
   pub too-short : TooShort a l named
   pub lowest : (b : Buffer) → bufferNumber b < bufferNumber named → Enough a l b
 
--- `Answers l r`: the operation answers `r` to the batch `ws` beside lengths `l`, which `read` reads. `Room`: what it lends is not too short.
+-- `Answers l r`: the operation answers `r`, which `read` reads, to the batch `ws` beside lengths `l`. `Room`: what it lends is not too short.
 pub record Demand3 {A : Type 0} (read : A → Reading) (ws : List ℕ) (Room : Type 0) (Answers : Lengths → A → Type 0) : Type 0 where
   -- "The checker reports one length for each of the four picture buffers: zero if .., otherwise one more than the highest byte .."
   pub exact : (l : Lengths) (r : A) → Answers l r → (b : Buffer) → IsLength (Touched ws b) (lengthFor b (read r))

@@ -23,10 +23,10 @@ take-twice zero xs = refl
 take-twice (suc n) [] = refl
 take-twice (suc n) (x ∷ xs) = ap (λ ys. x ∷ ys) (take-twice n xs)
 
--- a row that agrees with a list at each of its places is that list
-row-is : {A : Type 0} (thing : ℕ → A) (xs : List A) (d : A) → ((k : ℕ) → k < length xs → thing k ≡ getD xs k d) → firstOf thing (length xs) ≡ xs
-row-is thing [] d h = refl
-row-is thing (x ∷ xs) d h = ap₂ (λ y ys. y ∷ ys) (h 0 (omega arith)) (row-is (λ k. thing (suc k)) xs d (λ k l. h (suc k) (omega arith)))
+-- a sequence that agrees with a list at each of its places begins with it
+begins-with : {A : Type 0} (member : ℕ → A) (xs : List A) (d : A) → ((k : ℕ) → k < length xs → member k ≡ getD xs k d) → firstOf member (length xs) ≡ xs
+begins-with member [] d h = refl
+begins-with member (x ∷ xs) d h = ap₂ (λ y ys. y ∷ ys) (h 0 (omega arith)) (begins-with (λ k. member (suc k)) xs d (λ k l. h (suc k) (omega arith)))
 
 -- For every batch of 32-bit words, all lengths and every lent log with which decoding answers 0: "Each macroblock command becomes one
 -- record", and writing each record gives the batch's own commands back, word for word.
@@ -56,4 +56,4 @@ decoded-back l ws log are h =
         )
 
     all : (lent : List ℕ) → 9 ≤ length lent → firstOf (commandFrom after lent) (length (macroblocksIn (commandsOf ws))) ≡ macroblocksIn (commandsOf ws)
-    all lent room = row-is (commandFrom after lent) ms [] (λ k b. one k lent b room .1)
+    all lent room = begins-with (commandFrom after lent) ms [] (λ k b. one k lent b room .1)

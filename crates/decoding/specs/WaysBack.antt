@@ -17,10 +17,10 @@ recordIn log k = take recordLength (drop (recordLength * k) log)
 abbrev pub commandFrom : List ℕ → List ℕ → ℕ → List ℕ
 commandFrom log lent k = take 9 (writeRoom (recordIn log k) lent)
 
--- The first n of a row of things.
+-- The first n members of a sequence.
 abbrev pub firstOf : {A : Type 0} → (ℕ → A) → ℕ → List A
-firstOf thing zero = []
-firstOf thing (suc n) = thing 0 ∷ firstOf (λ k. thing (suc k)) n
+firstOf member zero = []
+firstOf member (suc n) = member 0 ∷ firstOf (λ k. member (suc k)) n
 
 -- Each record of a log, written alone into any nine words or more, gives the batch's own MACROBLOCK command; one after the other they
 -- give all of them.

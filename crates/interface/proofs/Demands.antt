@@ -9,7 +9,7 @@ use Rattle.batch.specs.declared.Report.{Report}
 use Rattle.batch.proofs.BufferLengths.{demand-through, demand-whole}
 use Rattle.decoding.specs.Logs.{decoded, DecodedInto, RoomIn}
 use Rattle.decoding.proofs.DecodingLengths.{demand-decoding, same-records}
-use Rattle.interface.specs.Promises.{SummaryOfCheck, SummaryInParts, SummaryOfDecode}
+use Rattle.interface.specs.Promises.{SummaryOfCheck, SummaryInParts, SummaryOfDecode, SummaryDecodedInto}
 use Rattle.interface.specs.Summaries.{summaryOf, summaryReading}
 use Rattle.interface.specs.declared.Summary.{Summary}
 use Rattle.interface.proofs.InParts.{memory-whole}
@@ -23,27 +23,30 @@ kept-by s r e k = subst KeepsOthers (ap summaryReading e ∙ summary-read r) k
 as-whole : (ws : List ℕ) (l : Lengths) (s : Summary) → SummaryInParts ws l s → s ≡ summaryOf (report l ws)
 as-whole ws l s a = memory-whole l (a .0) (a .2 .0) s (a .2 .1) (a .2 .2) ∙ ap (λ (x : List ℕ). summaryOf (report l x)) (a .1)
 
+-- Functions that answer what the check answers to the whole batch.
+as-checked : (ws : List ℕ) (Gives : Lengths → Summary → Type 0) → ((l : Lengths) (s : Summary) → Gives l s → s ≡ summaryOf (report l ws))
+    → (l₀ : Lengths) (s₀ : Summary) → Gives l₀ s₀ → KeepsOthers (summaryReading s₀) → Demand3 summaryReading ws (Unit {0}) Gives
+as-checked ws Gives is l₀ s₀ a kept =
+    demand-through readingOf summaryReading summaryOf summary-read ws (Unit {0}) (Checked ws) Gives (λ l s g. (report l ws, refl, is l s g))
+    (demand-whole ws l₀ (kept-by s₀ (report l₀ ws) (is l₀ s₀ a) kept))
+
 -- Demand 3 of `hromulice_check`. That the batch keeps the other rules is asked of some call, and the claims hold of all.
 pub c-demand-whole : (ws : List ℕ) (l₀ : Lengths) (s₀ : Summary) → SummaryOfCheck ws l₀ s₀ → KeepsOthers (summaryReading s₀)
     → Demand3 summaryReading ws (Unit {0}) (SummaryOfCheck ws)
-c-demand-whole ws l₀ s₀ a kept =
-    demand-through readingOf summaryReading summaryOf summary-read ws (Unit {0}) (Checked ws) (SummaryOfCheck ws) (λ l s g. (report l ws, refl, g))
-    (demand-whole ws l₀ (kept-by s₀ (report l₀ ws) a kept))
+c-demand-whole ws = as-checked ws (SummaryOfCheck ws) (λ l s g. g)
 
 -- Demand 3 of `hromulice_begin`, `hromulice_hand_over` and `hromulice_report_of`, along all lists of parts that make the batch up,
 -- whatever memory the functions left on the way.
 pub c-demand-parts : (ws : List ℕ) (l₀ : Lengths) (s₀ : Summary) → SummaryInParts ws l₀ s₀ → KeepsOthers (summaryReading s₀)
     → Demand3 summaryReading ws (Unit {0}) (SummaryInParts ws)
-c-demand-parts ws l₀ s₀ a kept =
-    demand-through readingOf summaryReading summaryOf summary-read ws (Unit {0}) (Checked ws) (SummaryInParts ws) (λ l s g. (report l ws, refl, as-whole ws l s g))
-    (demand-whole ws l₀ (kept-by s₀ (report l₀ ws) (as-whole ws l₀ s₀ a) kept))
+c-demand-parts ws = as-checked ws (SummaryInParts ws) (as-whole ws)
 
 -- Demand 3 of `hromulice_decode`, into any log.
 pub c-demand-decoding : (ws : List ℕ) (l₀ : Lengths) (log₀ : List ℕ) (s₀ : Summary) (after₀ : List ℕ) → SummaryOfDecode ws log₀ l₀ s₀ after₀
     → KeepsOthers (summaryReading s₀)
-    → (log : List ℕ) → Demand3 summaryReading ws (RoomIn log ws) (λ l s. (after : List ℕ) × SummaryOfDecode ws log l s after)
+    → (log : List ℕ) → Demand3 summaryReading ws (RoomIn log ws) (SummaryDecodedInto log ws)
 c-demand-decoding ws l₀ log₀ s₀ after₀ a kept log =
-    demand-through readingOf summaryReading summaryOf summary-read ws (RoomIn log ws) (DecodedInto log ws) (λ l s. (after : List ℕ) × SummaryOfDecode ws log l s after)
+    demand-through readingOf summaryReading summaryOf summary-read ws (RoomIn log ws) (DecodedInto log ws) (SummaryDecodedInto log ws)
     (λ l s g. (decoded l ws log, refl, g .1 .0))
     (demand-decoding ws l₀ log₀ (kept-by s₀ (decoded l₀ ws log₀) (a .0) kept) log)
 

@@ -24,6 +24,10 @@ SummaryInParts ws l s = (parts : List (List ℕ)) × (flatten parts ≡ ws) × (
 abbrev pub SummaryOfDecode : List ℕ → List ℕ → Lengths → Summary → List ℕ → Type 0
 SummaryOfDecode ws before l s after = (s ≡ summaryOf (decoded l ws before)) × (after ≡ decodedLog l ws before)
 
+-- The same, whatever the log afterwards.
+abbrev pub SummaryDecodedInto : List ℕ → List ℕ → Lengths → Summary → Type 0
+SummaryDecodedInto log ws l s = (after : List ℕ) × SummaryOfDecode ws log l s after
+
 -- One command that is read into lent bytes, and one record that is written into lent words.
 abbrev pub CommandRead : List ℕ → List ℕ → Outcome → List ℕ → Type 0
 CommandRead ws before o after = (o ≡ outcomeOf (readAnswer ws before)) × (after ≡ readRoom ws before)
