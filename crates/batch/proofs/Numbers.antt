@@ -19,7 +19,7 @@ use Rattle.progress.specs.declared.Verdict.the-variants.{Next, Stop}
 use Rattle.sequence.specs.Judging.{judge}
 use Rattle.sequence.proofs.JudgingLaws.{stops-within, stops-inside}
 use Rattle.batch.specs.Numbers.{RefusedBy, run-out, broken, too-many, CheckedBy, accepted, refused, short-buffer}
-use Rattle.batch.specs.Reports.{reportNumber, reportPlace, reportable, measured, ending, concluding, verdictOf, report}
+use Rattle.batch.specs.Reports.{reportNumber, reportPlace, reportable, measured, ending, concluding, finish, verdictOf, report}
 use Rattle.batch.specs.Walk.{Walk, going, stopped, limit, after, step, start}
 use Rattle.batch.specs.declared.Lengths.{Lengths}
 use Rattle.batch.specs.declared.Report.the-variants as answers
@@ -144,3 +144,16 @@ accepted-by-0 l ws h = by (verdictOf ws) refl h
     by : (v : Verdict) → verdictOf ws ≡ v → reportNumber (concluding l v) ≡ 0 → (r : Reported) × (concluding l v ≡ answers.Accepted r)
     by (Next p) s h = measured-0 (reportable p) (outcome (reportable p) l) h
     by (Stop n place) s h = absurd (stopped-0 n place (refused-by ws n place s) h)
+
+-- A walk that goes on is answered by 0, 1 or 13: nothing is refused for good.
+pub going-numbers : (l : Lengths) (at : ℕ) (p : Progress) (g : List ℕ) (n : ℕ) → reportNumber (finish l (going at p g)) ≡ n → (n ≡ 0) ⊎ ((n ≡ 1) ⊎ (n ≡ 13))
+unfolding finish
+going-numbers l at p g n e = by (p .stage .ended) e
+  where
+    lengths : Outcome (reportable p) l → reportNumber (measured (reportable p) l) ≡ n → (n ≡ 0) ⊎ ((n ≡ 1) ⊎ (n ≡ 13))
+    lengths (enough all a) e = inl (sym e ∙ ap reportNumber a)
+    lengths (short c s low a) e = inr (inr (sym e ∙ ap reportNumber a))
+
+    by : (ended : Bool) → reportNumber (concluding l (cond ended (Next p) (Stop 1 (at + length g)))) ≡ n → (n ≡ 0) ⊎ ((n ≡ 1) ⊎ (n ≡ 13))
+    by true e = lengths (outcome (reportable p) l) e
+    by false e = inr (inl (sym e))

@@ -1,15 +1,17 @@
 -- A batch in parts is answered as the whole batch.
-use mathlib.Core.Bool.{true}
+use mathlib.Core.Bool.{Bool, true, false}
+use mathlib.Core.Logic.{_⊎_, inl, inr}
 use mathlib.Core.List.{List, [], _++_, foldl, flatten}
 use mathlib.Core.Path.{_≡_, refl, sym, _∙_, ap}
 use Prim.Native.Nat.{ℕ}
 use Rattle.lists.proofs.Stepping.{along-whole, folds-both}
 use Rattle.batch.specs.Reports.{reportNumber, reportPlace, reportedOf, finish, verdictOf, report}
-use Rattle.batch.specs.Walk.{Walk, stopped, step}
+use Rattle.batch.specs.Walk.{Walk, going, stopped, step}
 use Rattle.batch.specs.declared.Lengths.{Lengths}
 use Rattle.batch.specs.declared.Report.{Report}
+use Rattle.batch.proofs.Numbers.{going-numbers}
 use Rattle.batch.proofs.WalkLaws.{stays}
-use Rattle.parts.specs.States.{walkIn, Handed, Answered, HandedOver}
+use Rattle.parts.specs.States.{gathered, walkIn, Handed, Answered, HandedOver}
 use Rattle.parts.specs.declared.State.{State}
 
 -- A check that has stopped takes no more words.
@@ -18,6 +20,22 @@ unfolding walkIn
 stopped-stays s ws e =
     let is : walkIn s ≡ stopped (s .number) (s .place) = simp e in
     rw is (sym (stays (s .number) (s .place) ws))
+
+-- A check that is answered by another number than 0, 1 and 13 has stopped.
+pub answered-stopped : (s : State) (r : Report) → Answered s r → (reportNumber r ≡ 0 → ⊥) → (reportNumber r ≡ 1 → ⊥) → (reportNumber r ≡ 13 → ⊥) → s .stopped ≡ true
+unfolding walkIn
+answered-stopped s r a not-0 not-1 not-13 = by (s .stopped) refl
+  where
+    none : (reportNumber r ≡ 0) ⊎ ((reportNumber r ≡ 1) ⊎ (reportNumber r ≡ 13)) → ⊥
+    none (inl e) = not-0 e
+    none (inr (inl e)) = not-1 e
+    none (inr (inr e)) = not-13 e
+
+    by : (b : Bool) → s .stopped ≡ b → b ≡ true
+    by true e = refl
+    by false e =
+        let is : walkIn s ≡ going (s .at) (s .progress) (gathered s) = simp e in
+        absurd (none (going-numbers (s .lengths) (s .at) (s .progress) (gathered s) (reportNumber r) (sym (ap reportNumber (a ∙ ap (finish (s .lengths)) is)))))
 
 -- two parts, one after the other, are one part of both, and nothing changes without a part
 handed-none : (s : State) → Handed s [] s
