@@ -3,6 +3,7 @@
  * A whole batch of zero words is pages that nobody wrote. What is due is written down from document 01. Prints the enumerator's name, and
  * ends with 1 at another answer. */
 #define _DEFAULT_SOURCE
+#include "p1.h"
 #include <hromulice.h>
 #include <stdio.h>
 #include <stdlib.h>
@@ -12,13 +13,6 @@
 #define PART 65536u
 
 static const uint32_t zeros[PART];
-static const uint32_t p1[37] = {
-    0x70010004, 0, 0x003C00F0, 0x480003FB, 0x10, 0,
-    0x7300000B, 0xFFFF3400, 0x200, 0, 0, 0, 0, 0, 0, 0, 0, 0, 0,
-    0x73430006, 0, 0, 0, 0, 0, 0, 0,
-    0x73490007, 0x00003A00, 0, 0xFC0, 0xC5000001, 0, 0, 0, 0,
-    0x05000000
-};
 
 /* A report with `length` for both pictures, and 0 for the references. */
 static void compare(hromulice_report r, uint8_t number, uint64_t place, uint64_t length)

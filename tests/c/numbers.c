@@ -1,6 +1,7 @@
 /* Has the library give each number that its functions give, HROMULICE_TOO_MANY_WORDS apart (many.c): the answer is the enumerator, at the
  * place that document 01 says. The inputs are document 01's cases and variants of them, and what is due is written down from that paper, the
  * lengths from document 02's R-3. Prints the names of the enumerators that were given, and ends with 1 at another answer. */
+#include "p1.h"
 #include <hromulice.h>
 #include <inttypes.h>
 #include <stdio.h>
@@ -10,14 +11,7 @@
 #define NAMED(name) #name, name
 #define COUNT(array) (sizeof(array) / sizeof *(array))
 
-/* "P1, whole, 37 words in hex", and the record of its macroblock, whose command is words 27 to 35. */
-static const uint32_t p1[37] = {
-    0x70010004, 0, 0x003C00F0, 0x480003FB, 0x10, 0,
-    0x7300000B, 0xFFFF3400, 0x200, 0, 0, 0, 0, 0, 0, 0, 0, 0, 0,
-    0x73430006, 0, 0, 0, 0, 0, 0, 0,
-    0x73490007, 0x00003A00, 0, 0xFC0, 0xC5000001, 0, 0, 0, 0,
-    0x05000000
-};
+/* The record of P1's macroblock, and what P1 needs. */
 static const uint8_t p1_record[24] = {0, 0, 0, 0, 0, 0, 0, 0, 0x3F, 0, 0, 1, 0x0F, 0, 0, 0, 0, 0, 0, 0, 0, 0, 0, 0};
 static const hromulice_lengths p1_lengths = {384, 384, 0, 0};
 static const hromulice_lengths none = {0, 0, 0, 0};
