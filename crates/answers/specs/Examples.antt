@@ -38,16 +38,20 @@ found table examples = map (λ x. brokenIn (table (x .given))) examples
 abbrev pub due : {A : Type 0} → List (Example A) → List (List (ℕ × ℕ))
 due examples = map (λ x. x .breaks) examples
 
--- Whether an example shows a rule: the rule with that number and place is what it breaks.
+-- Whether a rule, by its number and place, is among those that are broken, in one list or in one of several.
 abbrev pub named : Rule → List (ℕ × ℕ) → Bool
 named r [] = false
 named r ((n, p) ∷ rest) = (eqb (r .number) n && eqb (r .place) p) || named r rest
 
-abbrev pub shownBy : {A : Type 0} → List (Example A) → Rule → Bool
-shownBy [] r = false
-shownBy (x ∷ xs) r = named r (x .breaks) || shownBy xs r
+abbrev pub namedIn : Rule → List (List (ℕ × ℕ)) → Bool
+namedIn r [] = false
+namedIn r (broken ∷ others) = named r broken || namedIn r others
+
+-- Every rule of a table is broken somewhere.
+abbrev pub allBroken : List (List (ℕ × ℕ)) → List Rule → Bool
+allBroken lists [] = true
+allBroken lists (r ∷ rs) = namedIn r lists && allBroken lists rs
 
 -- Every rule of a table is shown by an example that breaks it.
 abbrev pub allShown : {A : Type 0} → List (Example A) → List Rule → Bool
-allShown examples [] = true
-allShown examples (r ∷ rs) = shownBy examples r && allShown examples rs
+allShown examples rules = allBroken (due examples) rules

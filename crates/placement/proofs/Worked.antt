@@ -9,7 +9,7 @@ use Rattle.prediction.specs.Addresses.{address}
 use Rattle.prediction.specs.Extents.{emptyExtent, joined}
 use Rattle.prediction.specs.Blocks.{blockAt}
 use Rattle.answers.specs.Answers.{Rule}
-use Rattle.answers.specs.Examples.{found, due, allShown}
+use Rattle.answers.specs.Examples.{found, due, allBroken, allShown}
 use Rattle.macroblock.specs.Cases.{motionOf, caseOf, vectorWords}
 use Rattle.macroblock.specs.Macroblocks.{macroblockOf}
 use Rattle.macroblock.specs.Rules.{keptBy, fieldRules, vectorRules, commandRules}
@@ -23,12 +23,18 @@ use Rattle.placement.specs.Progressing.{positionAfter, stageAfter, exten
 abbrev table : Progress × List ℕ → List Rule
 table x = macroblockRules (x .0) (x .1)
 
--- Each example breaks the rules that document 01 says and no other, and every rule is shown.
-every-example : (found table placedExamples ≡ due placedExamples) × (allShown placedExamples (macroblockRules fresh []) ≡ true)
+abbrev placedTable : Progress × List ℕ → List Rule
+placedTable x = placedRules (x .0) (blocksOf (x .0) (macroblockOf (x .1) .case)) (macroblockOf (x .1)) (x .1)
+
+-- Each example breaks the rules that document 01 says and no other, and every rule is shown; of the picture's rules each by itself, as some
+-- have number and place in common with one that a command keeps alone.
+every-example : (found table placedExamples ≡ due placedExamples)
+    × (allShown placedExamples (macroblockRules fresh []) ≡ true)
+    × (allBroken (found placedTable placedExamples) (placedTable (fresh, [])) ≡ true)
 unfolding placedExamples macroblockRules placedRules blocksOf predicted forwardOf backwardOf fresh
     commandRules fieldRules vectorRules keptBy macroblockOf caseOf motionOf vectorWords
     vectorOf wordOf vectorInRange blockAt joined emptyExtent address
-every-example = (refl, refl)
+every-example = (refl, refl, refl)
 
 every-change : map (λ (c : Change). macroblockNext (c .before) (c .words)) placedChanges ≡ map (λ (c : Change). c .after) placedChanges
 unfolding placedChanges macroblockNext progressAfter extentsAfter stageAfter positionAfter blocksOf predicted forwardOf backwardOf
