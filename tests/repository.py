@@ -11,7 +11,7 @@ tests/repository_test.py tries each on a small tree.
   the very function that it changes.
 - Every name that docs/CLAIMS.md cites is declared in the file that it cites, and every edit that it cites is there.
 - What a cited law states is declared in specs/, worked examples apart, and each file of specs/ says whether it has to be believed or which law
-  proves it.
+  proves it. No two of them declare the same public name.
 - Laws that a crate of definitions has for its functions alone (`proofs/Lib.antt`) are cited by nobody else.
 - No law above `prediction` unfolds one of its definitions, closed statements in the files of worked examples apart; its code may. Of its
   abbreviations, which unfold everywhere, only those that are listed are used above.
@@ -34,6 +34,7 @@ def main(root):
         'citations': claims.check_claims(root, faults),
         'statements of cited laws': claims.check_statements(root, faults),
         'files of definitions': claims.check_specs(root, faults),
+        'public definitions': claims.check_names(root, faults),
         'files of laws for functions alone': laws.check_borders(root, faults),
         'laws and proofs above prediction': laws.check_unfolding(root, faults),
         'abbreviations of prediction': laws.check_open(root, faults),

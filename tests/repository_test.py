@@ -464,6 +464,17 @@ class Specs(Tree):
         self.refuses(claims.check_specs, 'names no law')
 
 
+class Names(Tree):
+    def test_passes(self):
+        self.write('crates/two/specs/Other.antt', '-- Other.\n\nabbrev pub thrice : ℕ → ℕ\nthrice n = n\n\nabbrev twice : ℕ → ℕ\ntwice n = n\n')
+        self.passes(claims.check_names)
+
+    def test_a_name_twice(self):
+        for declaration in ('abbrev pub twice : ℕ → ℕ', 'unfoldable pub twice : ℕ → ℕ', 'pub record twice : Type 0 where', 'pub data twice : Type 0 where'):
+            self.write('crates/two/specs/Other.antt', f'-- Other.\n\n{declaration}\n')
+            self.refuses(claims.check_names, 'twice is declared in')
+
+
 class Unfolding(Tree):
     LAW = 'crates/one/proofs/Laws.antt'
     WORKED = 'crates/placement/proofs/Worked.antt'

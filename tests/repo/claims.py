@@ -80,3 +80,20 @@ def check_specs(root, faults):
             if not antt.is_law(law, name):
                 faults.append(f'{where}: there is no law {name} in {path}')
     return count
+
+
+# Used behind a name of its own alone (`places.row`), so that its names cannot be taken for others.
+QUALIFIED = {'crates/memory/specs/Places.antt'}
+
+
+def check_names(root, faults):
+    """No two files of definitions declare the same public name."""
+    declared = {}
+    for file in sorted(root.glob('crates/*/specs/**/*.antt')):
+        where = str(file.relative_to(root))
+        for d in antt.declarations(read_code(file)) if where not in QUALIFIED else ():
+            if 'pub' in d.marks.split() and d.kind in ('definition', 'record', 'data'):
+                if d.name in declared:
+                    faults.append(f'{where}: {d.name} is declared in {declared[d.name]} too')
+                declared[d.name] = where
+    return len(declared)

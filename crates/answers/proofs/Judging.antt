@@ -10,7 +10,7 @@ use Rattle.lists.proofs.Booleans.{no, both, either}
 use Rattle.answers.specs.Answers.{Rule, earlier, answerBy, judged, holdsAt, unless, before}
 use Rattle.answers.specs.declared.Answer.{Answer}
 use Rattle.answers.specs.declared.Answer.the-variants.{Accepted, Refused}
-use Rattle.answers.specs.Tables.{firstBroken, after, ascending, Hold, Each, within}
+use Rattle.answers.specs.Tables.{firstBroken, noneBefore, ascending, Hold, Each, within}
 
 is-before : (m q n p : ℕ) → before m q n p ≡ true → (q ≤ p) × (q ≡ p → m < n)
 is-before m q n p e = by (ltb q p) (eqb q p) (ltb m n) refl refl refl e
@@ -110,10 +110,10 @@ late-earlier n p Accepted b s t = t
 late-earlier n p (Refused m q) Accepted s t = s
 late-earlier n p (Refused m q) (Refused k r) s t = late-by n p (before k r m q) (Refused k r) (Refused m q) t s
 
-late-judged : (n p : ℕ) (rs : List Rule) → T (after n p rs) → T (late n p (judged rs))
+late-judged : (n p : ℕ) (rs : List Rule) → T (noneBefore n p rs) → T (late n p (judged rs))
 late-judged n p [] t = tt
 late-judged n p (r ∷ rs) t =
-    let h = both (not (before (r .number) (r .place) n p)) (after n p rs) t in
+    let h = both (not (before (r .number) (r .place) n p)) (noneBefore n p rs) t in
     late-earlier n p (answerBy r) (judged rs) (late-by n p (r .holds) Accepted (Refused (r .number) (r .place)) tt (h .0)) (late-judged n p rs (h .1))
 
 stays : (n p : ℕ) (a : Answer) → T (late n p a) → earlier (Refused n p) a ≡ Refused n p
@@ -126,9 +126,9 @@ stays n p (Refused m q) t = by (before m q n p) t
 
 pub in-order : (rs : List Rule) → T (ascending rs) → judged rs ≡ firstBroken rs
 in-order [] t = refl
-in-order (r ∷ rs) t = by (both (after (r .number) (r .place) rs) (ascending rs) t) (in-order rs) (r .holds)
+in-order (r ∷ rs) t = by (both (noneBefore (r .number) (r .place) rs) (ascending rs) t) (in-order rs) (r .holds)
   where
-    by : T (after (r .number) (r .place) rs) × T (ascending rs)
+    by : T (noneBefore (r .number) (r .place) rs) × T (ascending rs)
         → (T (ascending rs) → judged rs ≡ firstBroken rs)
         → (h : Bool)
         → earlier (cond h Accepted (Refused (r .number) (r .place))) (judged rs) ≡ cond h (firstBroken rs) (Refused (r .number) (r .place))

@@ -10,19 +10,19 @@ use Rattle.answers.specs.Answers.{Rule, numberOf, placeOf}
 use Rattle.answers.specs.declared.Answer.{Answer}
 
 -- A number with its place is in a list.
-abbrev pub Listed : ℕ → ℕ → List (ℕ × ℕ) → Type 0
-Listed n p [] = ⊥
-Listed n p ((m, q) ∷ rest) = ((n ≡ m) × (p ≡ q)) ⊎ Listed n p rest
+abbrev pub Among : ℕ → ℕ → List (ℕ × ℕ) → Type 0
+Among n p [] = ⊥
+Among n p ((m, q) ∷ rest) = ((n ≡ m) × (p ≡ q)) ⊎ Among n p rest
 
 -- An answer's number and place are.
 abbrev pub OneOf : List (ℕ × ℕ) → Answer → Type 0
-OneOf places a = Listed (numberOf a) (placeOf a) places
+OneOf places a = Among (numberOf a) (placeOf a) places
 
 -- The test that a number with its place is in a list, and that those of each rule of a table are.
-abbrev pub listed : ℕ → ℕ → List (ℕ × ℕ) → Bool
-listed n p [] = false
-listed n p ((m, q) ∷ rest) = (eqb n m && eqb p q) || listed n p rest
+abbrev pub among : ℕ → ℕ → List (ℕ × ℕ) → Bool
+among n p [] = false
+among n p ((m, q) ∷ rest) = (eqb n m && eqb p q) || among n p rest
 
-abbrev pub allListed : List (ℕ × ℕ) → List Rule → Bool
-allListed places [] = true
-allListed places (r ∷ rs) = listed (r .number) (r .place) places && allListed places rs
+abbrev pub allAmong : List (ℕ × ℕ) → List Rule → Bool
+allAmong places [] = true
+allAmong places (r ∷ rs) = among (r .number) (r .place) places && allAmong places rs

@@ -14,13 +14,13 @@ abbrev pub firstBroken : List Rule → Answer
 firstBroken [] = Accepted
 firstBroken (r ∷ rs) = cond (r .holds) (firstBroken rs) (Refused (r .number) (r .place))
 
-abbrev pub after : ℕ → ℕ → List Rule → Bool
-after n p [] = true
-after n p (r ∷ rs) = not (before (r .number) (r .place) n p) && after n p rs
+abbrev pub noneBefore : ℕ → ℕ → List Rule → Bool
+noneBefore n p [] = true
+noneBefore n p (r ∷ rs) = not (before (r .number) (r .place) n p) && noneBefore n p rs
 
 abbrev pub ascending : List Rule → Bool
 ascending [] = true
-ascending (r ∷ rs) = after (r .number) (r .place) rs && ascending rs
+ascending (r ∷ rs) = noneBefore (r .number) (r .place) rs && ascending rs
 
 -- Nothing is refused exactly when every rule holds.
 abbrev pub Hold : List Rule → Type 0

@@ -28,7 +28,7 @@ use Rattle.commands.proofs.ListLaws.{in-order-at}
 use Rattle.batch.specs.Walk.{going, step, start}
 use Rattle.batch.proofs.Runs.{batch-runs}
 use Rattle.batch.specs.Listed.{Run, Listed}
-use Rattle.sequence.specs.Sound.{Sound, countOf}
+use Rattle.sequence.specs.Sound.{Sound, haveCome}
 
 -- A command that comes once and says something, as SURFACE and PICTURE do: how to read it off a progress, and what one command
 -- changes of it.
@@ -100,7 +100,7 @@ picture-kept = said-kept Picture pictureOf (λ p. p .picture) (λ p. p .stage .p
 
 -- Every progress on the way is sound, and the count is that of the list's MACROBLOCK commands.
 pub next-sound : (p : Progress) (c : Command) (t : Progress) → judge (c .header) p (c .words) ≡ Next t → Sound p
-    → Sound t × (countOf t ≡ countOf p + flag (begins Macroblock (c .header)))
+    → Sound t × (haveCome t ≡ haveCome p + flag (begins Macroblock (c .header)))
 next-sound p c t j s =
     let n = goes-on (c .header) p (c .words) t j in
     rw (n .1) (sound-next (c .header) p (c .words) (n .0) s)
@@ -109,20 +109,20 @@ pub run-sound : (p : Progress) (cs : List Command) (q : Progress) → Run p cs q
 run-sound p [] q r s = rw (sym r) s
 run-sound p (c ∷ cs) q r s = run-sound (r .0) cs q (r .2) (next-sound p c (r .0) (r .1) s .0)
 
-pub run-count : (p : Progress) (cs : List Command) (q : Progress) → Run p cs q → Sound p → countOf q ≡ countOf p + length (macroblocksIn cs)
+pub run-count : (p : Progress) (cs : List Command) (q : Progress) → Run p cs q → Sound p → haveCome q ≡ haveCome p + length (macroblocksIn cs)
 unfolding macroblocksIn
-run-count p [] q r s = ap countOf (sym r) ∙ sym (add-zero (countOf p))
+run-count p [] q r s = ap haveCome (sym r) ∙ sym (add-zero (haveCome p))
 run-count p (c ∷ cs) q r s =
     let n = next-sound p c (r .0) (r .1) s in
     run-count (r .0) cs q (r .2) (n .0) ∙ ap (λ (k : ℕ). k + length (macroblocksIn cs)) (n .1)
     ∙ by (begins Macroblock (c .header))
   where
-    by : (b : Bool) → countOf p + flag b + length (macroblocksIn cs) ≡ countOf p + length (cond b (c .words ∷ macroblocksIn cs) (macroblocksIn cs))
+    by : (b : Bool) → haveCome p + flag b + length (macroblocksIn cs) ≡ haveCome p + length (cond b (c .words ∷ macroblocksIn cs) (macroblocksIn cs))
     by true = omega arith
     by false = omega arith
 
 -- The k-th MACROBLOCK of the list stands at column k mod W, row k div W, with the W of the list's PICTURE.
-pub run-order : (p : Progress) (cs : List Command) (q : Progress) → Run p cs q → Sound p → InOrder (q .picture .grid .columns) (countOf p) (macroblocksIn cs)
+pub run-order : (p : Progress) (cs : List Command) (q : Progress) → Run p cs q → Sound p → InOrder (q .picture .grid .columns) (haveCome p) (macroblocksIn cs)
 unfolding macroblocksIn
 run-order p [] q r s = tt
 run-order p (c ∷ cs) q r s =
@@ -132,21 +132,21 @@ run-order p (c ∷ cs) q r s =
     n : (judged (rulesOf (c .header) p (c .words)) ≡ Accepted) × (r .0 ≡ nextOf (c .header) p (c .words))
     n = goes-on (c .header) p (c .words) (r .0) (r .1)
 
-    by : InOrder (q .picture .grid .columns) (countOf (r .0)) (macroblocksIn cs) → (b : Bool) → begins Macroblock (c .header) ≡ b → countOf (r .0) ≡ countOf p + flag b
-        → InOrder (q .picture .grid .columns) (countOf p) (cond b (c .words ∷ macroblocksIn cs) (macroblocksIn cs))
+    by : InOrder (q .picture .grid .columns) (haveCome (r .0)) (macroblocksIn cs) → (b : Bool) → begins Macroblock (c .header) ≡ b → haveCome (r .0) ≡ haveCome p + flag b
+        → InOrder (q .picture .grid .columns) (haveCome p) (cond b (c .words ∷ macroblocksIn cs) (macroblocksIn cs))
     by rest true e k =
         let a = macroblock-rules (c .header) p (c .words) e (n .0) in
         let pictured = s .group-pictured (in-group p (c .words) a) in
         let same = picture-kept p (c ∷ cs) q r pictured in
         let at = position-of (p .picture .grid .columns) (p .position) (s .in-row pictured) in
         let own = own-position p (c .words) a in (
-          own .0 ∙ sym (at .0) ∙ ap (λ x. countOf p % x .grid .columns) (sym same),
-          own .1 ∙ sym (at .1) ∙ ap (λ x. countOf p / x .grid .columns) (sym same),
+          own .0 ∙ sym (at .0) ∙ ap (λ x. haveCome p % x .grid .columns) (sym same),
+          own .1 ∙ sym (at .1) ∙ ap (λ x. haveCome p / x .grid .columns) (sym same),
           rw k at rest,
         )
-    by rest false e k = rw (k ∙ add-zero (countOf p)) at rest
+    by rest false e k = rw (k ∙ add-zero (haveCome p)) at rest
 
-nothing-yet : countOf fresh ≡ 0
+nothing-yet : haveCome fresh ≡ 0
 unfolding fresh
 nothing-yet = refl
 
@@ -155,7 +155,7 @@ listed ws at p g e =
     let r = batch-runs ws at p g e in
     let cs = commandsOf ws in
     let none = nothing-yet in
-    let count : countOf p ≡ length (macroblocksIn cs) = run-count fresh cs p r fresh-sound ∙ ap (λ (n : ℕ). n + length (macroblocksIn cs)) none ∙ zero-add (length (macroblocksIn cs)) in
+    let count : haveCome p ≡ length (macroblocksIn cs) = run-count fresh cs p r fresh-sound ∙ ap (λ (n : ℕ). n + length (macroblocksIn cs)) none ∙ zero-add (length (macroblocksIn cs)) in
     let picture = run-said Picture pictureOf (λ p. p .picture) (λ p. p .stage .pictured) pictures-once fresh cs p r in
     let order = rw (none, picture) at (run-order fresh cs p r fresh-sound) in
     record {

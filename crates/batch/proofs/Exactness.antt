@@ -32,7 +32,7 @@ use Rattle.batch.specs.Walk.{going, step, start}
 use Rattle.batch.proofs.CommandList.{frame-kept, picture-kept, next-sound, listed}
 use Rattle.batch.proofs.Runs.{batch-runs}
 use Rattle.batch.specs.Listed.{Run}
-use Rattle.sequence.specs.Sound.{Sound, countOf}
+use Rattle.sequence.specs.Sound.{Sound, haveCome}
 
 abbrev position : ℕ → ℕ → Position
 position x y = record { column = x; row = y }
@@ -49,23 +49,23 @@ module _ (b : Buffer) where
   -- a MACROBLOCK command of a run
   macroblock-exact : (p : Progress) (c : Command) (t : Progress) → judge (c .header) p (c .words) ≡ Next t → Sound p → begins Macroblock (c .header) ≡ true
       → {Before : ℕ → Type 0} → Exact Before (extentOf b (p .extents))
-      → (p .stage .pictured ≡ true) × Exact (λ (byte : ℕ). Before byte ⊎ By (p .frame .surface) (positionIn (p .picture .grid .columns) (countOf p)) (c .words) byte) (extentOf b (t .extents))
+      → (p .stage .pictured ≡ true) × Exact (λ (byte : ℕ). Before byte ⊎ By (p .frame .surface) (positionIn (p .picture .grid .columns) (haveCome p)) (c .words) byte) (extentOf b (t .extents))
   macroblock-exact p c t j s e {Before} before =
       let n = goes-on (c .header) p (c .words) t j in
       let a = macroblock-rules (c .header) p (c .words) e (n .0) in
       let pictured = s .group-pictured (in-group p (c .words) a) in
       let at = position-of (p .picture .grid .columns) (p .position) (s .in-row pictured) in
-      let here : p .position ≡ positionIn (p .picture .grid .columns) (countOf p) = sym (ap₂ position (at .0) (at .1)) in
+      let here : p .position ≡ positionIn (p .picture .grid .columns) (haveCome p) = sym (ap₂ position (at .0) (at .1)) in
       let same : macroblockNext p (c .words) ≡ t = sym (n .1 ∙ macroblock-next (c .header) p (c .words) e) in
       let one = next-exact p (c .words) a (s .wide pictured) (s .in-row pictured) b before in
-      let moved : Exact (λ (byte : ℕ). Before byte ⊎ By (p .frame .surface) (positionIn (p .picture .grid .columns) (countOf p)) (c .words) byte) (extentOf b (macroblockNext p (c .words) .extents)) =
+      let moved : Exact (λ (byte : ℕ). Before byte ⊎ By (p .frame .surface) (positionIn (p .picture .grid .columns) (haveCome p)) (c .words) byte) (extentOf b (macroblockNext p (c .words) .extents)) =
       subst (λ (x : Position). Exact (λ (byte : ℕ). Before byte ⊎ By (p .frame .surface) x (c .words) byte) (extentOf b (macroblockNext p (c .words) .extents))) here one in (
         pictured,
-        subst (λ (x : Progress). Exact (λ (byte : ℕ). Before byte ⊎ By (p .frame .surface) (positionIn (p .picture .grid .columns) (countOf p)) (c .words) byte) (extentOf b (x .extents))) same moved,
+        subst (λ (x : Progress). Exact (λ (byte : ℕ). Before byte ⊎ By (p .frame .surface) (positionIn (p .picture .grid .columns) (haveCome p)) (c .words) byte) (extentOf b (x .extents))) same moved,
       )
 
   run-exact : (p : Progress) (cs : List Command) (q : Progress) → Run p cs q → Sound p → {Before : ℕ → Type 0} → Exact Before (extentOf b (p .extents))
-      → Exact (λ (byte : ℕ). Before byte ⊎ From (q .frame .surface) (q .picture .grid .columns) (countOf p) (macroblocksIn cs) byte) (extentOf b (q .extents))
+      → Exact (λ (byte : ℕ). Before byte ⊎ From (q .frame .surface) (q .picture .grid .columns) (haveCome p) (macroblocksIn cs) byte) (extentOf b (q .extents))
   unfolding macroblocksIn
   run-exact p [] q r s {Before} before =
       rw (sym r) (exact-same {Q = λ (byte : ℕ). Before byte ⊎ ⊥} (λ byte h. inl h) only before)
@@ -83,31 +83,31 @@ module _ (b : Buffer) where
       w : ℕ
       w = q .picture .grid .columns
 
-      by : (t : Bool) → begins Macroblock (c .header) ≡ t → countOf (r .0) ≡ countOf p + flag t
-          → ((B : ℕ → Type 0) → Exact B (extentOf b (r .0 .extents)) → Exact (λ (byte : ℕ). B byte ⊎ From S w (countOf (r .0)) (macroblocksIn cs) byte) (extentOf b (q .extents)))
-          → Exact (λ (byte : ℕ). Before byte ⊎ From S w (countOf p) (cond t (c .words ∷ macroblocksIn cs) (macroblocksIn cs)) byte) (extentOf b (q .extents))
+      by : (t : Bool) → begins Macroblock (c .header) ≡ t → haveCome (r .0) ≡ haveCome p + flag t
+          → ((B : ℕ → Type 0) → Exact B (extentOf b (r .0 .extents)) → Exact (λ (byte : ℕ). B byte ⊎ From S w (haveCome (r .0)) (macroblocksIn cs) byte) (extentOf b (q .extents)))
+          → Exact (λ (byte : ℕ). Before byte ⊎ From S w (haveCome p) (cond t (c .words ∷ macroblocksIn cs) (macroblocksIn cs)) byte) (extentOf b (q .extents))
       by true e k rest =
           let m = macroblock-exact p c (r .0) (r .1) s e before in
           let frame = frame-kept p (c ∷ cs) q r (s .pictured-surfaced (m .0)) in
           let picture = picture-kept p (c ∷ cs) q r (m .0) in
-          let one : Exact (λ (byte : ℕ). Before byte ⊎ By S (positionIn w (countOf p)) (c .words) byte) (extentOf b (r .0 .extents)) = rw (frame, picture) (m .1) in
+          let one : Exact (λ (byte : ℕ). Before byte ⊎ By S (positionIn w (haveCome p)) (c .words) byte) (extentOf b (r .0 .extents)) = rw (frame, picture) (m .1) in
           exact-same first back (rw k at (rest _ one))
         where
-          first : (byte : ℕ) → (Before byte ⊎ By S (positionIn w (countOf p)) (c .words) byte) ⊎ From S w (countOf p + 1) (macroblocksIn cs) byte
-              → Before byte ⊎ (By S (positionIn w (countOf p)) (c .words) byte ⊎ From S w (countOf p + 1) (macroblocksIn cs) byte)
+          first : (byte : ℕ) → (Before byte ⊎ By S (positionIn w (haveCome p)) (c .words) byte) ⊎ From S w (haveCome p + 1) (macroblocksIn cs) byte
+              → Before byte ⊎ (By S (positionIn w (haveCome p)) (c .words) byte ⊎ From S w (haveCome p + 1) (macroblocksIn cs) byte)
           first byte (inl (inl h)) = inl h
           first byte (inl (inr h)) = inr (inl h)
           first byte (inr h) = inr (inr h)
 
-          back : (byte : ℕ) → Before byte ⊎ (By S (positionIn w (countOf p)) (c .words) byte ⊎ From S w (countOf p + 1) (macroblocksIn cs) byte)
-              → (Before byte ⊎ By S (positionIn w (countOf p)) (c .words) byte) ⊎ From S w (countOf p + 1) (macroblocksIn cs) byte
+          back : (byte : ℕ) → Before byte ⊎ (By S (positionIn w (haveCome p)) (c .words) byte ⊎ From S w (haveCome p + 1) (macroblocksIn cs) byte)
+              → (Before byte ⊎ By S (positionIn w (haveCome p)) (c .words) byte) ⊎ From S w (haveCome p + 1) (macroblocksIn cs) byte
           back byte (inl h) = inl (inl h)
           back byte (inr (inl h)) = inl (inr h)
           back byte (inr (inr h)) = inr h
       by false e k rest =
           let n = goes-on (c .header) p (c .words) (r .0) (r .1) in
           let same = ap (λ (x : Progress). extentOf b (x .extents)) (n .1) ∙ ap (extentOf b) (others-touch-nothing (c .header) p (c .words) e) in
-          rw (k ∙ add-zero (countOf p)) at (rest Before (rw same before))
+          rw (k ∙ add-zero (haveCome p)) at (rest Before (rw same before))
 
   -- the k-th of the list
   to-k : (s : Surface) (w j : ℕ) (ms : List (List ℕ)) (byte : ℕ) → From s w j ms byte → (k : ℕ) × (k < length ms) × By s (positionIn w (j + k)) (getD ms k []) byte
@@ -135,7 +135,7 @@ module _ (b : Buffer) where
       by forward = empty-exact
       by backward = empty-exact
 
-  start-count : countOf fresh ≡ 0
+  start-count : haveCome fresh ≡ 0
   unfolding fresh
   start-count = refl
 

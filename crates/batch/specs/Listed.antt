@@ -16,7 +16,7 @@ use Rattle.answers.specs.declared.Answer.the-variants.{Accepted}
 use Rattle.headers.specs.Headers.{macroblockHeader}
 use Rattle.headers.specs.Words.{wordAt}
 use Rattle.macroblock.specs.Rules.{commandRules}
-use Rattle.sequence.specs.Sound.{countOf}
+use Rattle.sequence.specs.Sound.{haveCome}
 
 -- From progress `p` to progress `q` by commands, none of which is refused.
 abbrev pub Run : Progress → List Command → Progress → Type 0
@@ -25,7 +25,7 @@ Run p (c ∷ cs) q = (t : Progress) × (judge (c .header) p (c .words) ≡ Next 
 
 -- What the list of commands says of a walk that was not refused.
 pub record Listed (ws : List ℕ) (p : Progress) : Type 0 where
-  pub count : countOf p ≡ length (macroblocksIn (commandsOf ws))
+  pub count : haveCome p ≡ length (macroblocksIn (commandsOf ws))
   pub order : (k : ℕ) → k < length (macroblocksIn (commandsOf ws))
       → (macroblockOf (getD (macroblocksIn (commandsOf ws)) k []) .column ≡ k % batchPicture ws .grid .columns)
       × (macroblockOf (getD (macroblocksIn (commandsOf ws)) k []) .row ≡ k / batchPicture ws .grid .columns)

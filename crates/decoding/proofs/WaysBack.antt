@@ -15,7 +15,7 @@ use Rattle.commands.proofs.CommandWords.{macroblock-nine}
 use Rattle.batch.specs.Reports.{reportNumber}
 use Rattle.batch.specs.declared.Lengths.{Lengths}
 use Rattle.decoding.specs.Logs.{decoded, decodedLog}
-use Rattle.decoding.specs.WaysBack.{recordIn, commandFrom, firstOf, WritesBack}
+use Rattle.decoding.specs.WaysBack.{recordIn, commandFrom, firstMembers, WritesBack}
 use Rattle.decoding.proofs.DecodingLaws.{decodes}
 
 take-twice : (n : ℕ) (xs : List ℕ) → take n (take n xs) ≡ take n xs
@@ -24,7 +24,7 @@ take-twice (suc n) [] = refl
 take-twice (suc n) (x ∷ xs) = ap (λ ys. x ∷ ys) (take-twice n xs)
 
 -- a sequence that agrees with a list at each of its places begins with it
-begins-with : {A : Type 0} (member : ℕ → A) (xs : List A) (d : A) → ((k : ℕ) → k < length xs → member k ≡ getD xs k d) → firstOf member (length xs) ≡ xs
+begins-with : {A : Type 0} (member : ℕ → A) (xs : List A) (d : A) → ((k : ℕ) → k < length xs → member k ≡ getD xs k d) → firstMembers member (length xs) ≡ xs
 begins-with member [] d h = refl
 begins-with member (x ∷ xs) d h = ap₂ (λ y ys. y ∷ ys) (h 0 (omega arith)) (begins-with (λ k. member (suc k)) xs d (λ k l. h (suc k) (omega arith)))
 
@@ -55,5 +55,5 @@ decoded-back l ws log are h =
           ap (λ (r : List ℕ). take 9 (writeRoom r lent)) found ∙ again .1 ∙ take-all 9 m (let n = nine .1 in omega arith),
         )
 
-    all : (lent : List ℕ) → 9 ≤ length lent → firstOf (commandFrom after lent) (length (macroblocksIn (commandsOf ws))) ≡ macroblocksIn (commandsOf ws)
+    all : (lent : List ℕ) → 9 ≤ length lent → firstMembers (commandFrom after lent) (length (macroblocksIn (commandsOf ws))) ≡ macroblocksIn (commandsOf ws)
     all lent room = begins-with (commandFrom after lent) ms [] (λ k b. one k lent b room .1)

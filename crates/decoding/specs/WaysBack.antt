@@ -18,9 +18,9 @@ abbrev pub commandFrom : List ℕ → List ℕ → ℕ → List ℕ
 commandFrom log lent k = take 9 (writeRoom (recordIn log k) lent)
 
 -- The first n members of a sequence.
-abbrev pub firstOf : {A : Type 0} → (ℕ → A) → ℕ → List A
-firstOf member zero = []
-firstOf member (suc n) = member 0 ∷ firstOf (λ k. member (suc k)) n
+abbrev pub firstMembers : {A : Type 0} → (ℕ → A) → ℕ → List A
+firstMembers member zero = []
+firstMembers member (suc n) = member 0 ∷ firstMembers (λ k. member (suc k)) n
 
 -- Each record of a log, written alone into any nine words or more, gives the batch's own MACROBLOCK command; one after the other they
 -- give all of them.
@@ -28,4 +28,4 @@ pub record WritesBack (ws log : List ℕ) : Type 0 where
   pub accepted : (k : ℕ) (lent : List ℕ) → k < length (macroblocksIn (commandsOf ws)) → 9 ≤ length lent → writeAnswer (recordIn log k) lent ≡ Accepted
   pub command : (k : ℕ) (lent : List ℕ) → k < length (macroblocksIn (commandsOf ws)) → 9 ≤ length lent
       → commandFrom log lent k ≡ getD (macroblocksIn (commandsOf ws)) k []
-  pub commands : (lent : List ℕ) → 9 ≤ length lent → firstOf (commandFrom log lent) (length (macroblocksIn (commandsOf ws))) ≡ macroblocksIn (commandsOf ws)
+  pub commands : (lent : List ℕ) → 9 ≤ length lent → firstMembers (commandFrom log lent) (length (macroblocksIn (commandsOf ws))) ≡ macroblocksIn (commandsOf ws)

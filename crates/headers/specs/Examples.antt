@@ -9,18 +9,18 @@ use Rattle.headers.specs.declared.Header.the-variants.{Known, Carried}
 use Rattle.headers.specs.declared.Opcode.the-variants.{Noop, End, Surface, Picture, SliceGroup, Macroblock}
 
 -- Words, and what they say.
-pub record Reading (A : Type 0) : Type 0 where
+pub record WordReading (A : Type 0) : Type 0 where
   pub words : List ℕ
   pub says : A
 
-abbrev pub reading : {A : Type 0} → List ℕ → A → Reading A
+abbrev pub reading : {A : Type 0} → List ℕ → A → WordReading A
 reading ws a = record { words = ws; says = a }
 
 -- What a reader finds in the words of readings, and what is due.
-abbrev pub readBy : {A : Type 0} → (List ℕ → A) → List (Reading A) → List A
+abbrev pub readBy : {A : Type 0} → (List ℕ → A) → List (WordReading A) → List A
 readBy reader readings = map (λ x. reader (x .words)) readings
 
-abbrev pub said : {A : Type 0} → List (Reading A) → List A
+abbrev pub said : {A : Type 0} → List (WordReading A) → List A
 said readings = map (λ x. x .says) readings
 
 -- A word with one of its bits turned over.

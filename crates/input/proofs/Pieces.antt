@@ -16,7 +16,7 @@ use Rattle.batch.specs.Walk.{Walk, going, stopped, step, start}
 use Rattle.batch.specs.declared.Lengths.{Lengths}
 use Rattle.batch.proofs.WalkLaws.{counted}
 use Rattle.input.specs.Line.{lengthsOf, wordsFrom, leftOver, answerTo, inputReport, reportLine, inputLine}
-use Rattle.input.specs.Input.{Input, head, body, feed, wordsThrough, finished, inputIn, lineOf, InputHanded, InPieces}
+use Rattle.input.specs.Input.{Input, head, body, feed, wordsThrough, finished, inputIn, outputLine, InputHanded, InPieces}
 use Rattle.input.specs.declared.OutputLine.{OutputLine}
 use Rattle.input.proofs.Feeding.{lengths-gathered, lengths-completed, restOf, rest-length, words-fed}
 
@@ -60,10 +60,10 @@ all-fed bs = by (ltb (length bs) 32) refl
 
 -- For every list of pieces (the empty list and empty pieces among them), whatever states the functions returned on the way, the line is
 -- that of all bytes in order.
-pub pieces-line : (pieces : List (List ℕ)) (r : OutputLine) → InPieces pieces r → r ≡ lineOf (inputLine (flatten pieces))
+pub pieces-line : (pieces : List (List ℕ)) (r : OutputLine) → InPieces pieces r → r ≡ outputLine (inputLine (flatten pieces))
 unfolding inputLine
 pieces-line pieces r h =
     let t = h .2 .0 in
     h .2 .2 .0
-    ∙ ap (λ (x : Input). lineOf (reportLine (finished x))) (along-whole InputHanded (λ s. refl) (folds-both inputIn feed) (h .0) pieces t (h .2 .1) ∙ ap (λ (x : Input). foldl feed x (flatten pieces)) (h .1))
-    ∙ ap (λ x. lineOf (reportLine x)) (all-fed (flatten pieces))
+    ∙ ap (λ (x : Input). outputLine (reportLine (finished x))) (along-whole InputHanded (λ s. refl) (folds-both inputIn feed) (h .0) pieces t (h .2 .1) ∙ ap (λ (x : Input). foldl feed x (flatten pieces)) (h .1))
+    ∙ ap (λ x. outputLine (reportLine x)) (all-fed (flatten pieces))

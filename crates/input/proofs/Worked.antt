@@ -28,7 +28,7 @@ use Rattle.batch.specs.Reports.{bufferRules, measured, verdictOf, report}
 use Rattle.batch.specs.declared.Report.the-variants.{Accepted}
 use Rattle.input.specs.Text.{ascii, decimal}
 use Rattle.input.specs.Line.{lengthsOf, answerTo, inputReport, textOf, inputLine}
-use Rattle.input.specs.Input.{lineOf}
+use Rattle.input.specs.Input.{outputLine}
 
 -- numbers as bytes, k to each, lowest first
 abbrev bytes : ℕ → List ℕ → List ℕ
@@ -49,7 +49,7 @@ unfolding decimal
 printed-in-order = refl
 
 -- a text of two bytes stands first, and zeros behind it
-zeros-behind : lineOf (72 ∷ 10 ∷ []) ≡ record { bytes = 72 ∷ 10 ∷ replicate 254 0; len = 2 }
+zeros-behind : outputLine (72 ∷ 10 ∷ []) ≡ record { bytes = 72 ∷ 10 ∷ replicate 254 0; len = 2 }
 zeros-behind = refl
 
 -- "P1, whole, 37 words in hex"

@@ -55,12 +55,12 @@ unfoldable pub inputIn : Stream → Input
 inputIn s = cond (s .begun) (body (s .state .lengths) (walkIn (s .state)) (heldOf 4 s)) (head (heldOf 32 s))
 
 -- A text as the whole struct that holds it: its bytes with zeros behind them, and how many it has.
-abbrev pub lineOf : List ℕ → OutputLine
-lineOf text = record { bytes = text ++ replicate (256 - length text) 0; len = length text }
+abbrev pub outputLine : List ℕ → OutputLine
+outputLine text = record { bytes = text ++ replicate (256 - length text) 0; len = length text }
 
 -- A line with some text behind that of another.
 abbrev pub Followed : OutputLine → List ℕ → OutputLine → Type 0
-Followed line text r = (t : List ℕ) → line ≡ lineOf t → r ≡ lineOf (t ++ text)
+Followed line text r = (t : List ℕ) → line ≡ outputLine t → r ≡ outputLine (t ++ text)
 
 -- What a fresh input promises, what handing over a piece promises of the state that it returns, and what the answer promises.
 abbrev pub InputBegun : Stream → Type 0
@@ -70,7 +70,7 @@ abbrev pub InputHanded : Stream → List ℕ → Stream → Type 0
 InputHanded s piece r = inputIn r ≡ foldl feed (inputIn s) piece
 
 abbrev pub InputAnswered : Stream → OutputLine → Type 0
-InputAnswered s r = (r ≡ lineOf (reportLine (finished (inputIn s)))) × (r .len ≤ 256)
+InputAnswered s r = (r ≡ outputLine (reportLine (finished (inputIn s)))) × (r .len ≤ 256)
 
 -- A line for a list of pieces: a state was handed over along it from a fresh one, and this is answered after it.
 abbrev pub InPieces : List (List ℕ) → OutputLine → Type 0

@@ -6,7 +6,7 @@ use native.Mathlib.Omega.{arith}
 use borrow.Rule.Slice.PartMut.{midOf, putMid}
 use lib.ListN.{length, take, drop, replicate, length-append, length-replicate, replicate-append-replicate}
 use lib.Seq.{take-append-seam, drop-at, drop-drop}
-use Rattle.input.specs.Input.{lineOf}
+use Rattle.input.specs.Input.{outputLine}
 use Rattle.input.specs.declared.OutputLine.{OutputLine}
 use Rattle.input_code.proofs.Copying.{copied-over}
 
@@ -24,12 +24,12 @@ abbrev line : List ℕ → ℕ → OutputLine
 line bytes len = record { bytes = bytes; len = len }
 
 -- `part` is what stands in the lent part of the line's bytes, which is all that is behind its text, after the copy.
-put-text : (t text part : List ℕ) → length (lineOf t .bytes) ≡ 256 → length t + length text ≤ 256
-    → part ≡ take (length text) text ++ drop (length text) (midOf (length t) (256 - length t) (lineOf t .bytes))
-    → line (putMid (length t) (256 - length t) (lineOf t .bytes) part) (length t + length text) ≡ lineOf (t ++ text)
+put-text : (t text part : List ℕ) → length (outputLine t .bytes) ≡ 256 → length t + length text ≤ 256
+    → part ≡ take (length text) text ++ drop (length text) (midOf (length t) (256 - length t) (outputLine t .bytes))
+    → line (putMid (length t) (256 - length t) (outputLine t .bytes) part) (length t + length text) ≡ outputLine (t ++ text)
 put-text t text part size fits copied =
     let n = length text in
-    let room = lineOf t .bytes in
+    let room = outputLine t .bytes in
     let both = length-append t text in
     let fewer : 256 - length t - n ≡ 256 - length (t ++ text) = omega arith in
     let left : drop (length t + n) room ≡ zeros (256 - length (t ++ text)) =
@@ -46,9 +46,9 @@ put-text t text part size fits copied =
 
 pub put-behind : (l : OutputLine) (t text part : List ℕ) → length (l .bytes) ≡ 256 → l .len + length text ≤ 256
     → part ≡ take (length text) text ++ drop (length text) (midOf (l .len) (256 - l .len) (l .bytes))
-    → l ≡ lineOf t → line (putMid (l .len) (256 - l .len) (l .bytes) part) (l .len + length text) ≡ lineOf (t ++ text)
+    → l ≡ outputLine t → line (putMid (l .len) (256 - l .len) (l .bytes) part) (l .len + length text) ≡ outputLine (t ++ text)
 put-behind l t text part size fits copied e =
     subst (λ (x : OutputLine). length (x .bytes) ≡ 256 → x .len + length text ≤ 256
     → part ≡ take (length text) text ++ drop (length text) (midOf (x .len) (256 - x .len) (x .bytes))
-    → line (putMid (x .len) (256 - x .len) (x .bytes) part) (x .len + length text) ≡ lineOf (t ++ text))
+    → line (putMid (x .len) (256 - x .len) (x .bytes) part) (x .len + length text) ≡ outputLine (t ++ text))
     (sym e) (put-text t text part) size fits copied

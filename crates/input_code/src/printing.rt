@@ -7,7 +7,7 @@ ghost use Prim.Native.Nat.{_+_, _*_, _≤_};
 ghost use lib.ListN.{length};
 ghost use Rattle.input.specs.Text.{ascii, decimal, spaced};
 ghost use Rattle.input.specs.Line.{textOf, reportLine};
-ghost use Rattle.input.specs.Input.{lineOf, Followed};
+ghost use Rattle.input.specs.Input.{outputLine, Followed};
 
 // Some text behind a line's.
 fn put(line: OutputLine, text: &[u8]) -> OutputLine
@@ -55,7 +55,7 @@ fn put_numbers(line: OutputLine, numbers: &[u64]) -> OutputLine
 
 // An empty line.
 fn empty() -> OutputLine
-    ensures { λ r. ⌜ (r ≡ lineOf []) × (r .len ≡ 0) ⌝ }
+    ensures { λ r. ⌜ (r ≡ outputLine []) × (r .len ≡ 0) ⌝ }
 {
     let bytes = [0u8; 256];
     OutputLine { bytes, len: 0 }
@@ -63,14 +63,14 @@ fn empty() -> OutputLine
 
 // `refuse`, number and place.
 fn refused(number: u8, place: u64) -> OutputLine
-    ensures { λ r. ⌜ (r ≡ lineOf (ascii "refuse" ++ spaced (number ∷ place ∷ []))) × (r .len ≤ 48) ⌝ }
+    ensures { λ r. ⌜ (r ≡ outputLine (ascii "refuse" ++ spaced (number ∷ place ∷ []))) × (r .len ≤ 48) ⌝ }
 {
     let numbers = [number as u64, place];
     put_numbers(put(empty(), b"refuse"), &numbers)
 }
 
 fn text_of(report: Report) -> OutputLine
-    ensures { λ r. ⌜ (r ≡ lineOf (textOf report)) × (r .len ≤ 255) ⌝ }
+    ensures { λ r. ⌜ (r ≡ outputLine (textOf report)) × (r .len ≤ 255) ⌝ }
 {
     match report {
         Report::Accepted(reported) => {
@@ -87,7 +87,7 @@ fn text_of(report: Report) -> OutputLine
 
 // The line of a report.
 pub(crate) fn line_for(report: Report) -> OutputLine
-    ensures { λ r. ⌜ (r ≡ lineOf (reportLine report)) × (r .len ≤ 256) ⌝ }
+    ensures { λ r. ⌜ (r ≡ outputLine (reportLine report)) × (r .len ≤ 256) ⌝ }
 {
     put(text_of(report), b"\n")
 }

@@ -4,7 +4,7 @@ use mathlib.Core.Path.{_≡_, refl, sym, subst}
 use Prim.Native.Nat.{ℕ}
 use lib.ListN.{length}
 use Rattle.answers.specs.Answers as answer
-use Rattle.answers.specs.Numbers.{Listed}
+use Rattle.answers.specs.Numbers.{Among}
 use Rattle.answers.specs.declared.Answer.{Answer}
 use Rattle.commands.specs.Commands.{batchPicture}
 use Rattle.records.specs.Alone.{readAnswer, writeAnswer}
@@ -44,9 +44,9 @@ decode-answers l ws log r e =
     subst (λ (x : Summary). DecodedBy (length ws) (logLength (batchPicture ws .grid)) (x .number) (x .place)) (sym e) (decode-numbers l ws log)
 
 -- .. hromulice_read_command ..
-pub read-answers : (words room : List ℕ) (r : Outcome) → r ≡ outcomeOf (readAnswer words room) → Listed (r .number) (r .place) (readPlaces words)
-read-answers words room r e = subst (λ (x : Outcome). Listed (x .number) (x .place) (readPlaces words)) (sym e) (read-numbers words room)
+pub read-answers : (words room : List ℕ) (r : Outcome) → r ≡ outcomeOf (readAnswer words room) → Among (r .number) (r .place) (readPlaces words)
+read-answers words room r e = subst (λ (x : Outcome). Among (x .number) (x .place) (readPlaces words)) (sym e) (read-numbers words room)
 
 -- .. and hromulice_write_command.
-pub write-answers : (bytes room : List ℕ) (r : Outcome) → r ≡ outcomeOf (writeAnswer bytes room) → Listed (r .number) (r .place) (writePlaces bytes)
-write-answers bytes room r e = subst (λ (x : Outcome). Listed (x .number) (x .place) (writePlaces bytes)) (sym e) (write-numbers bytes room)
+pub write-answers : (bytes room : List ℕ) (r : Outcome) → r ≡ outcomeOf (writeAnswer bytes room) → Among (r .number) (r .place) (writePlaces bytes)
+write-answers bytes room r e = subst (λ (x : Outcome). Among (x .number) (x .place) (writePlaces bytes)) (sym e) (write-numbers bytes room)

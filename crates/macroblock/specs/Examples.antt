@@ -7,7 +7,7 @@ use lib.IntN.{ℤ, pos, negℤ}
 use lib.ListN.{set}
 use Rattle.prediction.specs.declared.Vector.{Vector}
 use Rattle.answers.specs.Examples.{Example, keeping, keepingEach, breakingEach}
-use Rattle.headers.specs.Examples.{Reading, reading, turnedIn}
+use Rattle.headers.specs.Examples.{WordReading, reading, turnedIn}
 use Rattle.macroblock.specs.declared.Prediction.the-variants.{Forward, Backward, Both}
 use Rattle.macroblock.specs.declared.Case.{Case}
 use Rattle.macroblock.specs.declared.Case.the-variants.{Intra, Inter}
@@ -89,7 +89,7 @@ flagsSaid flags = macroblock 0 0 0 Intra false 63 0 0 1 flags
 
 -- P1's and one of each type, skipped ones too; a vector at both ends of its components; then each field and each flag alone, with
 -- all its bits.
-unfoldable pub macroblockReadings : List (Reading Macroblock)
+unfoldable pub macroblockReadings : List (WordReading Macroblock)
 macroblockReadings =
     reading intraCommand (flagsSaid (flagged true true true true false false))
     ∷ reading forwardCommand (interSaid (Inter (Forward (halfSamples (minus 2) (pos 3)))))

@@ -6,7 +6,7 @@ use lib.ListN.{set, replicate}
 use Rattle.prediction.specs.declared.Grid.{Grid}
 use Rattle.answers.specs.Answers.{Rule}
 use Rattle.answers.specs.Examples.{Example, keeping, breaking, breakingEach}
-use Rattle.headers.specs.Examples.{Reading, reading, turnedIn}
+use Rattle.headers.specs.Examples.{WordReading, reading, turnedIn}
 use Rattle.picture.specs.Pictures.{codes, pictureRules}
 use Rattle.picture.specs.declared.Frame.{Frame}
 use Rattle.picture.specs.declared.Picture.{Picture}
@@ -24,7 +24,7 @@ frame w h p c = record { width = w; height = h; surface = record { pitch = p; «
 
 -- "height−1 in 31:18, width−1 in 17:4", "pitch−1 in 19:3", "first chroma row C in 14:0": P1's; 1920 by 1080; each field at its
 -- greatest and at its least; every bit that is not its own set
-unfoldable pub surfaceReadings : List (Reading Frame)
+unfoldable pub surfaceReadings : List (WordReading Frame)
 surfaceReadings =
     reading p1Surface (frame 16 16 128 16)
     ∷ reading hdSurface (frame 1920 1080 1920 1088)
@@ -69,7 +69,7 @@ abbrev pub picture : ℕ → ℕ → ℕ → ℕ → ℕ → ℕ → ℕ → Pic
 picture t fx fy bx by w h = record { coding = t; forward = codes fx fy; backward = codes bx by; grid = record { columns = w; rows = h } }
 
 -- P1's; P with W 120 and H 68; B whose f codes all differ, with W 256 and H 175; each field alone has all its bits
-unfoldable pub pictureReadings : List (Reading Picture)
+unfoldable pub pictureReadings : List (WordReading Picture)
 pictureReadings =
     reading (pictureWords 0xFFFF3400 0x200 0) (picture 1 15 15 15 15 1 1)
     ∷ reading (pictureWords 0xFF913400 0x400 0x00430077) (picture 2 1 9 15 15 120 68)

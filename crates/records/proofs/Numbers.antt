@@ -9,7 +9,7 @@ use lib.Dec.{T, eqb, ltb}
 use lib.ListN.{length}
 use Rattle.answers.specs.Answers.{judged}
 use Rattle.answers.specs.Lending.{thenRoom}
-use Rattle.answers.specs.Numbers.{OneOf, allListed}
+use Rattle.answers.specs.Numbers.{OneOf, allAmong}
 use Rattle.answers.specs.declared.Answer.the-variants.{Refused}
 use Rattle.answers.proofs.NumberLaws.{is-listed, table-listed, room-listed}
 use Rattle.headers.specs.Headers.{macroblockHeader}
@@ -37,11 +37,11 @@ unfolding readAnswer
 read-numbers words room = room-listed (readPlaces words) (readFault words) recordLength room tt tt (read-fault words)
 
 -- the rules of a record, whichever vectors it has
-rules-listed : (bytes : List ℕ) → T (allListed recordPlaces (recordRules bytes))
+rules-listed : (bytes : List ℕ) → T (allAmong recordPlaces (recordRules bytes))
 unfolding recordRules byteRules zeroRules
 rules-listed bytes = by (hasForward (valueAt kindPart bytes)) (hasBackward (valueAt kindPart bytes))
   where
-    by : (f b : Bool) → T (allListed recordPlaces (byteRules bytes (keptBy (macroblockIn bytes))
+    by : (f b : Bool) → T (allAmong recordPlaces (byteRules bytes (keptBy (macroblockIn bytes))
         ++ (unusedPart false fillerPart bytes ++ (unusedPart f forwardPart bytes ++ unusedPart b backwardPart bytes))))
     by true true = tt
     by true false = tt

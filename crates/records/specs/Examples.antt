@@ -6,7 +6,7 @@ use lib.ListN.{set, take, replicate}
 use Rattle.answers.specs.Examples.{Example, keeping, breaking, keepingEach, breakingEach}
 use Rattle.answers.specs.declared.Answer.{Answer}
 use Rattle.answers.specs.declared.Answer.the-variants.{Accepted, Refused}
-use Rattle.headers.specs.Examples.{Reading, reading, upwards}
+use Rattle.headers.specs.Examples.{WordReading, reading, upwards}
 use Rattle.macroblock.specs.Examples.{intraCommand, skippedCommand, forwardWords, backwardWords, bothWords, forwardCommand, backwardCommand, bothCommand}
 
 -- P1's: "8 zero bytes, 3F 00 00 01 0F, 11 zero bytes".
@@ -33,7 +33,7 @@ bothBytes = 0xFE ∷ 0xFF ∷ 3 ∷ 0 ∷ 1 ∷ 0 ∷ 0xFF ∷ 0xFF ∷ []
 
 -- Commands and their records: P1's; one of each kind, skipped ones too; one whose bytes all differ; and "flags, bits 0 to 5: first slice,
 -- last slice, first group, last group, clamp, no conversion", each alone.
-unfoldable pub recordReadings : List (Reading (List ℕ))
+unfoldable pub recordReadings : List (WordReading (List ℕ))
 recordReadings =
     reading intraCommand p1Record
     ∷ reading forwardCommand (interRecord 1 forwardBytes)

@@ -11,7 +11,7 @@ use Rattle.answers.specs.Answers.{judged, before}
 use Rattle.answers.specs.declared.Answer.the-variants.{Accepted, Refused}
 use Rattle.answers.proofs.Judging.{after-place, in-order}
 use Rattle.records.specs.RecordRules.{zeroBytes}
-use Rattle.answers.specs.Tables.{after, ascending}
+use Rattle.answers.specs.Tables.{noneBefore, ascending}
 
 both : (a b : Bool) → T a → T b → T (a && b)
 both true b s t = t
@@ -20,15 +20,15 @@ both false b s t = s
 not-before : (b : Bool) → b ≡ false → T (not b)
 not-before b e = subst (λ (x : Bool). T (not x)) (sym e) tt
 
-later : (bs : List ℕ) (i j k : ℕ) → i < j → T (after 15 i (zeroBytes bs j k))
+later : (bs : List ℕ) (i j k : ℕ) → i < j → T (noneBefore 15 i (zeroBytes bs j k))
 later bs i j zero h = tt
 later bs i j (suc k) h =
-    both (not (before 15 j 15 i)) (after 15 i (zeroBytes bs (suc j) k)) (not-before (before 15 j 15 i) (after-place 15 j 15 i h)) (later bs i (suc j) k (omega arith))
+    both (not (before 15 j 15 i)) (noneBefore 15 i (zeroBytes bs (suc j) k)) (not-before (before 15 j 15 i) (after-place 15 j 15 i h)) (later bs i (suc j) k (omega arith))
 
 rising : (bs : List ℕ) (i k : ℕ) → T (ascending (zeroBytes bs i k))
 rising bs i zero = tt
 rising bs i (suc k) =
-    both (after 15 i (zeroBytes bs (suc i) k)) (ascending (zeroBytes bs (suc i) k)) (later bs i (suc i) k (omega arith)) (rising bs (suc i) k)
+    both (noneBefore 15 i (zeroBytes bs (suc i) k)) (ascending (zeroBytes bs (suc i) k)) (later bs i (suc i) k (omega arith)) (rising bs (suc i) k)
 
 -- the three ways of the code's turn, over how many bytes are left
 pub none-left : (bs : List ℕ) (i n : ℕ) → n ≡ 0 → Accepted ≡ judged (zeroBytes bs i n)

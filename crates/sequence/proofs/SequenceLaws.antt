@@ -29,7 +29,7 @@ use Rattle.placement.proofs.MacroblockLaws.{row-left}
 use Rattle.placement.proofs.PositionLaws.{next-reached, Advances, advances, in-group, next-position}
 use Rattle.sequence.specs.Sequence.{picturePermitted, surfaceNext, pictureNext, groupNext, endNext}
 use Rattle.sequence.specs.Judging.{rulesOf, nextOf, judge}
-use Rattle.sequence.specs.Sound.{Sound, countOf}
+use Rattle.sequence.specs.Sound.{Sound, haveCome}
 
 -- What a command says of the surface and the picture: SURFACE and PICTURE their own, the others what was said before.
 pub record Said (h : Header) (p q : Progress) (ws : List ℕ) : Type 0 where
@@ -80,7 +80,7 @@ unfolding fresh
 fresh-sound = record { group-pictured = λ e. e; pictured-surfaced = λ e. e; none-yet = λ e. (refl, refl); wide = λ e. absurd (no e); in-row = λ e. absurd (no e); reached = λ e. absurd (no e); ended-full = λ e. absurd (no e) }
 
 macroblock-sound : (p q : Progress) → Sound p → Advances p q → p .stage .«in_group» ≡ true → p .position .row < p .picture .grid .rows
-    → Sound q × (countOf q ≡ countOf p + 1)
+    → Sound q × (haveCome q ≡ haveCome p + 1)
 macroblock-sound p q s a g left =
     let pictured = s .group-pictured g in
     let surfaced = s .pictured-surfaced pictured in
@@ -99,9 +99,9 @@ macroblock-sound p q s a g left =
 
 -- Each command that is accepted keeps that, and only a macroblock counts.
 pub sound-next : (h : Header) (p : Progress) (ws : List ℕ) → judged (rulesOf h p ws) ≡ Accepted → Sound p
-    → Sound (nextOf h p ws) × (countOf (nextOf h p ws) ≡ countOf p + flag (begins Macroblock h))
+    → Sound (nextOf h p ws) × (haveCome (nextOf h p ws) ≡ haveCome p + flag (begins Macroblock h))
 unfolding rulesOf nextOf surfaceNext pictureNext groupNext endNext
-sound-next (Known Noop n) p ws a s = (s, sym (add-zero (countOf p)))
+sound-next (Known Noop n) p ws a s = (s, sym (add-zero (haveCome p)))
 sound-next (Known End n) p ws a s =
     let g = p .picture .grid in
     let open-none = p .stage .pictured && not (p .stage .«in_group») in
@@ -117,7 +117,7 @@ sound-next (Known End n) p ws a s =
         reached = s .reached;
         ended-full = λ e. (pictured, full);
       },
-      sym (add-zero (countOf p)),
+      sym (add-zero (haveCome p)),
     )
 sound-next (Known Surface n) p ws a s =
     let not-yet = not-true (p .stage .surfaced) (rule-kept 3 0 (rulesOf (Known Surface n) p ws) a) in (
@@ -130,7 +130,7 @@ sound-next (Known Surface n) p ws a s =
         reached = s .reached;
         ended-full = s .ended-full;
       },
-      sym (add-zero (countOf p)),
+      sym (add-zero (haveCome p)),
     )
 sound-next (Known Picture n) p ws a s =
     let h = rule-kept 3 0 (rulesOf (Known Picture n) p ws) a in
@@ -160,11 +160,11 @@ sound-next (Known SliceGroup n) p ws a s =
         reached = s .reached;
         ended-full = s .ended-full;
       },
-      sym (add-zero (countOf p)),
+      sym (add-zero (haveCome p)),
     )
 sound-next (Known Macroblock n) p ws a s = macroblock-sound p (macroblockNext p ws) s (advances p ws) (in-group p ws a) (row-left p ws a)
-sound-next (Carried n) p ws a s = (s, sym (add-zero (countOf p)))
-sound-next Unknown p ws a s = (s, sym (add-zero (countOf p)))
+sound-next (Carried n) p ws a s = (s, sym (add-zero (haveCome p)))
+sound-next Unknown p ws a s = (s, sym (add-zero (haveCome p)))
 
 -- A NOOP changes nothing.
 pub noop-passes : (n : ℕ) (p : Progress) (ws : List ℕ) → judge (Known Noop n) p ws ≡ Next p
@@ -172,7 +172,7 @@ unfolding judge rulesOf nextOf
 noop-passes n p ws = refl
 
 -- After END exactly W·H macroblocks have come.
-pub all-come : (p : Progress) → Sound p → p .stage .ended ≡ true → countOf p ≡ p .picture .grid .rows * p .picture .grid .columns
+pub all-come : (p : Progress) → Sound p → p .stage .ended ≡ true → haveCome p ≡ p .picture .grid .rows * p .picture .grid .columns
 all-come p s e =
     let f = s .ended-full e in
     ⊎-elim (λ l. absurd (omega (arith, l, f .1))) (λ r. simp (r .0, r .1, add-zero)) (s .reached (f .0))

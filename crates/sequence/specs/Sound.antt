@@ -19,5 +19,5 @@ pub record Sound (p : Progress) : Type 0 where
   pub ended-full : p .stage .ended ≡ true → (p .stage .pictured ≡ true) × (p .picture .grid .rows ≤ p .position .row)
 
 -- How many macroblocks have come.
-abbrev pub countOf : Progress → ℕ
-countOf p = countBefore (p .picture .grid .columns) (p .position)
+abbrev pub haveCome : Progress → ℕ
+haveCome p = countBefore (p .picture .grid .columns) (p .position)

@@ -6,7 +6,7 @@ use native.Mathlib.Omega.{arith}
 use borrow.Author.Needs.{needs}
 use lib.ListN.{length, take}
 use Rattle.input.specs.Text.{decimal}
-use Rattle.input.specs.Input.{lineOf}
+use Rattle.input.specs.Input.{outputLine}
 use Rattle.input_code.proofs.Texts.{decimal-few, kit-decimal}
 use Rattle.input_code.proofs.printing.put_decimal.Statement.{statement}
 use Rattle.input_code.proofs.printing.put_decimal.Tie as tie
@@ -31,7 +31,7 @@ put-requires c κs =
 returns : tie.Need-returns
 returns c =
     let s = c .before .before .before .before in (
-      λ t e. c .put .ensures .0 t e ∙ ap (λ (x : List ℕ). lineOf (t ++ x)) (spelled (c .before .before)),
+      λ t e. c .put .ensures .0 t e ∙ ap (λ (x : List ℕ). outputLine (t ++ x)) (spelled (c .before .before)),
       omega (arith, c .put .ensures .1, ap length (spelled (c .before .before)), decimal-few (s .args .n)),
     )
 

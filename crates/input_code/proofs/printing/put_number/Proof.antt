@@ -4,7 +4,7 @@ use mathlib.Core.Path.{sym, _∙_, ap}
 use native.Mathlib.Omega.{arith}
 use Prim.Native.Nat.{ℕ}
 use Rattle.input.specs.Text.{decimal}
-use Rattle.input.specs.Input.{lineOf}
+use Rattle.input.specs.Input.{outputLine}
 use borrow.Author.Needs.{needs}
 use Rattle.input_code.proofs.printing.put_number.Statement.{statement}
 use Rattle.input_code.proofs.printing.put_number.Tie as tie
@@ -23,7 +23,7 @@ returns c =
     let a = c .before .before .before .args in (
       λ t e.
           c .put-decimal .ensures .0 (t ++ (32 ∷ [])) (c .before .put .ensures .0 t e)
-          ∙ ap lineOf (append-assoc t (32 ∷ []) (decimal (a .n)) ∙ ap (λ (x : List ℕ). t ++ (32 ∷ x)) (sym (append-nil (decimal (a .n))))),
+          ∙ ap outputLine (append-assoc t (32 ∷ []) (decimal (a .n)) ∙ ap (λ (x : List ℕ). t ++ (32 ∷ x)) (sym (append-nil (decimal (a .n))))),
       omega (arith, c .put-decimal .ensures .1, c .before .put .ensures .1),
     )
 

@@ -8,7 +8,7 @@ use borrow.Author.Needs.{needs}
 use lib.ListN.{length, getD, take}
 use lib.Seq.{take-suc, take-length}
 use Rattle.input.specs.Text.{spaced}
-use Rattle.input.specs.Input.{lineOf, Followed}
+use Rattle.input.specs.Input.{outputLine, Followed}
 use Rattle.input_code.proofs.Texts.{then-spaced}
 use Rattle.input_code.proofs.printing.put_numbers.Statement.{statement}
 use Rattle.input_code.proofs.printing.put_numbers.Tie as tie
@@ -21,7 +21,7 @@ abbrev μ-loop : tie.MeasureT-loop
 μ-loop numbers next₀ i₀ next i = length numbers - i
 
 loop-holds : tie.Need-loop-holds Inv-loop μ-loop
-loop-holds c = (search needs, λ t e. e ∙ ap lineOf (sym (append-nil t)), omega arith)
+loop-holds c = (search needs, λ t e. e ∙ ap outputLine (sym (append-nil t)), omega arith)
 
 mul-put-number : tie.Need-mul-put-number Inv-loop μ-loop
 mul-put-number c = search needs
@@ -49,8 +49,8 @@ loop-again c =
       omega (arith, more),
       λ t e.
           c .put-number .ensures .0 (t ++ spaced (take (l .i) ns)) (l .inv .1 t e)
-          ∙ ap lineOf (then-spaced t (take (l .i) ns) (getD ns (l .i) 0 ∷ []))
-          ∙ ap (λ (xs : List ℕ). lineOf (t ++ spaced xs)) (sym (take-suc ns (l .i) 0 more) ∙ ap (λ (n : ℕ). take n ns) (sym (add-one (l .i)))),
+          ∙ ap outputLine (then-spaced t (take (l .i) ns) (getD ns (l .i) 0 ∷ []))
+          ∙ ap (λ (xs : List ℕ). outputLine (t ++ spaced xs)) (sym (take-suc ns (l .i) 0 more) ∙ ap (λ (n : ℕ). take n ns) (sym (add-one (l .i)))),
       omega (arith, l .inv .2, c .put-number .ensures .1),
     )
 
@@ -60,7 +60,7 @@ returns c =
     let a = c .before .before .before .args in
     let ns = a .numbers .now in
     let all : l .i ≡ length ns = omega (arith, l .inv .0, c .loop-test .left) in (
-      λ t e. l .inv .1 t e ∙ ap (λ (xs : List ℕ). lineOf (t ++ spaced xs)) (ap (λ (n : ℕ). take n ns) all ∙ take-length ns),
+      λ t e. l .inv .1 t e ∙ ap (λ (xs : List ℕ). outputLine (t ++ spaced xs)) (ap (λ (n : ℕ). take n ns) all ∙ take-length ns),
       omega (arith, l .inv .2, all),
     )
 

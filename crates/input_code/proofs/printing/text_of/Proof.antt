@@ -6,7 +6,7 @@ use native.Mathlib.Omega.{arith}
 use lib.ListN.{length}
 use Rattle.input.specs.Text.{ascii, spaced}
 use Rattle.input.specs.Line.{textOf}
-use Rattle.input.specs.Input.{lineOf}
+use Rattle.input.specs.Input.{outputLine}
 use Rattle.input_code.proofs.Texts.{then-spaced}
 use borrow.Author.Needs.{needs}
 use Rattle.input_code.proofs.printing.text_of.Statement.{statement}
@@ -61,8 +61,8 @@ returns c =
     let v = c .before .before .before .before .before in
     let g = v .before .before .report .given in (
       c .put-numbers .ensures .0 (ascii "accept") (p .ensures .0 [] (e .ensures .0))
-          ∙ ap (λ (y : List ℕ). lineOf (ascii "accept" ++ spaced y)) (v .values-of .ensures)
-          ∙ ap (λ x. lineOf (textOf x)) (sym (g .1)),
+          ∙ ap (λ (y : List ℕ). outputLine (ascii "accept" ++ spaced y)) (v .values-of .ensures)
+          ∙ ap (λ x. outputLine (textOf x)) (sym (g .1)),
       omega (arith, c .put-numbers .ensures .1, p .ensures .1, e .ensures .1, ap length (v .values-of .ensures)),
     )
 
@@ -73,14 +73,14 @@ returns-2 c =
     let g = v .before .before .report2 .given in
     let two = g .0 .0 ∷ g .0 .1 .0 ∷ [] in (
       c .put-numbers2 .ensures .0 (ascii "refuse" ++ spaced two) (r .ensures .0)
-          ∙ ap lineOf (then-spaced (ascii "refuse") two (v .values-of2 .result))
-          ∙ ap (λ (y : List ℕ). lineOf (ascii "refuse" ++ spaced (two ++ y))) (v .values-of2 .ensures)
-          ∙ ap (λ x. lineOf (textOf x)) (sym (g .1)),
+          ∙ ap outputLine (then-spaced (ascii "refuse") two (v .values-of2 .result))
+          ∙ ap (λ (y : List ℕ). outputLine (ascii "refuse" ++ spaced (two ++ y))) (v .values-of2 .ensures)
+          ∙ ap (λ x. outputLine (textOf x)) (sym (g .1)),
       omega (arith, c .put-numbers2 .ensures .1, r .ensures .1, ap length (v .values-of2 .ensures)),
     )
 
 returns-3 : tie.Need-returns-3
-returns-3 c = (c .refused2 .ensures .0 ∙ ap (λ x. lineOf (textOf x)) (sym (c .before .before .report3 .given .1)), omega (arith, c .refused2 .ensures .1))
+returns-3 c = (c .refused2 .ensures .0 ∙ ap (λ x. outputLine (textOf x)) (sym (c .before .before .report3 .given .1)), omega (arith, c .refused2 .ensures .1))
 
 pub text-of-spec : {M : Type 1} → statement M
 text-of-spec =
