@@ -6,6 +6,7 @@ use lib.ListN.{length}
 use Rattle.answers.specs.Answers as answer
 use Rattle.answers.specs.Numbers.{Among}
 use Rattle.answers.specs.declared.Answer.{Answer}
+use Rattle.answers.proofs.NumberLaws.{in-places}
 use Rattle.commands.specs.Commands.{batchPicture}
 use Rattle.records.specs.Alone.{readAnswer, writeAnswer}
 use Rattle.records.specs.Numbers.{readPlaces, writePlaces}
@@ -45,8 +46,8 @@ decode-answers l ws log r e =
 
 -- .. hromulice_read_command ..
 pub read-answers : (words room : List ℕ) (r : Outcome) → r ≡ outcomeOf (readAnswer words room) → Among (r .number) (r .place) (readPlaces words)
-read-answers words room r e = subst (λ (x : Outcome). Among (x .number) (x .place) (readPlaces words)) (sym e) (read-numbers words room)
+read-answers words room r e = subst (λ (x : Outcome). Among (x .number) (x .place) (readPlaces words)) (sym e) (in-places (readPlaces words) (readAnswer words room) (read-numbers words room))
 
 -- .. and hromulice_write_command.
 pub write-answers : (bytes room : List ℕ) (r : Outcome) → r ≡ outcomeOf (writeAnswer bytes room) → Among (r .number) (r .place) (writePlaces bytes)
-write-answers bytes room r e = subst (λ (x : Outcome). Among (x .number) (x .place) (writePlaces bytes)) (sym e) (write-numbers bytes room)
+write-answers bytes room r e = subst (λ (x : Outcome). Among (x .number) (x .place) (writePlaces bytes)) (sym e) (in-places (writePlaces bytes) (writeAnswer bytes room) (write-numbers bytes room))

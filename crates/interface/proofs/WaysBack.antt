@@ -8,7 +8,7 @@ use Rattle.fields.specs.Bytes.{Bytes}
 use Rattle.macroblock.specs.Legal.{Words}
 use Rattle.records.specs.Alone.{readAnswer, readRoom, writeAnswer, writeRoom}
 use Rattle.records.specs.Layout.{recordLength}
-use Rattle.records.proofs.Passing.{read-by-0, written-by-0}
+use Rattle.records.proofs.Numbers.{read-by-0, written-by-0}
 use Rattle.records.proofs.RoundTrips.{command-again, record-again}
 use Rattle.batch.specs.Reports.{reportNumber}
 use Rattle.batch.specs.declared.Lengths.{Lengths}

@@ -1,6 +1,5 @@
 -- for the crates above
 pub mod Numbers
-pub mod Passing
 pub mod RecordLaws
 pub mod RoundTrips
 -- for its functions alone

@@ -4,14 +4,15 @@ use mathlib.Core.List.{List, [], _∷_, _++_}
 use mathlib.Core.Logic.{inl, inr}
 use mathlib.Core.Path.{_≡_, refl, sym}
 use Prim.Native.Nat.{ℕ}
+use native.Mathlib.Omega.{arith}
 use borrow.Author.Tests.{eqb-true}
 use lib.Dec.{T, eqb, ltb}
 use lib.ListN.{length}
-use Rattle.answers.specs.Answers.{judged}
+use Rattle.answers.specs.Answers.{numberOf, judged}
 use Rattle.answers.specs.Lending.{thenRoom}
 use Rattle.answers.specs.Numbers.{OneOf, allAmong}
-use Rattle.answers.specs.declared.Answer.the-variants.{Refused}
-use Rattle.answers.proofs.NumberLaws.{is-listed, table-listed, room-listed}
+use Rattle.answers.specs.declared.Answer.the-variants.{Accepted, Refused}
+use Rattle.answers.proofs.NumberLaws.{is-listed, table-listed, room-listed, by-0}
 use Rattle.headers.specs.Headers.{macroblockHeader}
 use Rattle.headers.specs.Words.{wordAt}
 use Rattle.macroblock.specs.Rules.{keptBy, fieldRules, vectorRules, commandRules}
@@ -27,9 +28,9 @@ read-fault words = by (eqb (length words) 0) refl (eqb (wordAt words 0) macroblo
   where
     by : (none : Bool) → eqb (length words) 0 ≡ none → (macroblock few : Bool)
         → OneOf (readPlaces words) (cond none (Refused 1 0) (cond (not macroblock) (Refused 2 0) (cond few (Refused 1 (length words)) (judged (commandRules words)))))
-    by true e macroblock few = inr (inl (refl, sym (eqb-true (length words) 0 e)))
-    by false e false few = is-listed 2 0 (readPlaces words) tt
-    by false e true true = inr (inl (refl, refl))
+    by true e macroblock few = (omega arith, inr (inl (refl, sym (eqb-true (length words) 0 e))))
+    by false e false few = (omega arith, is-listed 2 0 (readPlaces words) tt)
+    by false e true true = (omega arith, inr (inl (refl, refl)))
     by false e true false = table-listed (readPlaces words) (commandRules words) tt tt
 
 pub read-numbers : (words room : List ℕ) → OneOf (readPlaces words) (readAnswer words room)
@@ -54,4 +55,11 @@ write-numbers bytes room = by (eqb (length bytes) recordLength)
   where
     by : (whole : Bool) → OneOf (cond whole recordPlaces ((15, 0) ∷ [])) (thenRoom (cond whole (judged (recordRules bytes)) (Refused 15 0)) 9 room)
     by true = room-listed recordPlaces (judged (recordRules bytes)) 9 room tt tt (table-listed recordPlaces (recordRules bytes) tt (rules-listed bytes))
-    by false = inl (refl, refl)
+    by false = (omega arith, inl (refl, refl))
+
+-- A command and a record are accepted by number 0 alone.
+pub read-by-0 : (words room : List ℕ) → numberOf (readAnswer words room) ≡ 0 → readAnswer words room ≡ Accepted
+read-by-0 words room = by-0 (readPlaces words) (readAnswer words room) (read-numbers words room)
+
+pub written-by-0 : (bytes room : List ℕ) → numberOf (writeAnswer bytes room) ≡ 0 → writeAnswer bytes room ≡ Accepted
+written-by-0 bytes room = by-0 (writePlaces bytes) (writeAnswer bytes room) (write-numbers bytes room)
