@@ -36,6 +36,7 @@ def main(root):
         'files of definitions': claims.check_specs(root, faults),
         'public definitions': claims.check_names(root, faults),
         'files of laws for functions alone': laws.check_borders(root, faults),
+        'files of worked examples': laws.check_worked(root, faults),
         'laws and proofs above prediction': laws.check_unfolding(root, faults),
         'abbreviations of prediction': laws.check_open(root, faults),
         'functions between a word and its components': contracts.check_halves(root, faults),

@@ -475,6 +475,20 @@ class Names(Tree):
             self.refuses(claims.check_names, 'twice is declared in')
 
 
+class Worked(Tree):
+    def setUp(self):
+        super().setUp()
+        for path in laws.WORKED:
+            self.write(path, '-- Numbers.\n')
+
+    def test_passes(self):
+        self.passes(laws.check_worked, len(laws.WORKED))
+
+    def test_a_file_that_is_gone(self):
+        (self.root / min(laws.WORKED)).unlink()
+        self.refuses(laws.check_worked, 'is not there')
+
+
 class Unfolding(Tree):
     LAW = 'crates/one/proofs/Laws.antt'
     WORKED = 'crates/placement/proofs/Worked.antt'

@@ -9,8 +9,16 @@ WORKED = {
     f'crates/{path}.antt' for path in (
         'lists/proofs/Worked', 'answers/proofs/Worked', 'fields/proofs/Worked', 'headers/proofs/Worked', 'prediction/proofs/Worked',
         'macroblock/proofs/Worked', 'picture/proofs/Worked', 'progress/proofs/Worked', 'placement/proofs/Worked', 'records/proofs/Worked',
-        'sequence/proofs/Worked', 'batch/proofs/Cases', 'batch/proofs/Batches', 'decoding/proofs/Cases', 'input/proofs/Worked')
+        'sequence/proofs/Worked', 'batch/proofs/Batches', 'decoding/proofs/Cases', 'input/proofs/Worked')
 }
+
+
+def check_worked(root, faults):
+    """Every file that may unfold is there: a name that is left over would serve a file to come."""
+    for path in sorted(WORKED):
+        if not (root / path).is_file():
+            faults.append(f'{path}: is listed as worked examples and is not there')
+    return len(WORKED)
 
 
 def check_borders(root, faults):

@@ -4,14 +4,17 @@ use mathlib.Core.List.{List, [], foldl}
 use mathlib.Core.Path.{_≡_, refl, sym, ap, _∙_}
 use Prim.Native.Nat.{ℕ, _+_, _≤_}
 use lib.ListN.{length, take, drop}
+use Rattle.answers.specs.Answers.{judged}
 use Rattle.answers.specs.declared.Answer.the-variants.{Refused}
 use Rattle.answers.proofs.Judging.{no-accepted}
+use Rattle.headers.specs.declared.Header.{Header}
+use Rattle.headers.specs.declared.Header.the-variants as headers
 use Rattle.progress.specs.Progress.{verdictAnswer}
 use Rattle.progress.specs.declared.Progress.{Progress}
 use Rattle.progress.specs.declared.Verdict.{Verdict}
 use Rattle.progress.specs.declared.Verdict.the-variants.{Next, Stop}
-use Rattle.sequence.specs.Judging.{judge}
-use Rattle.commands.specs.Commands.{nextIn, byNext, nextAnswer}
+use Rattle.sequence.specs.Judging.{rulesOf, judge}
+use Rattle.commands.specs.Commands.{nextIn, byNext, headerAnswer, nextAnswer}
 use Rattle.commands.specs.declared.NextCommand.{NextCommand}
 use Rattle.commands.specs.declared.NextCommand.the-variants.{Unknown, Incomplete, Whole}
 use Rattle.batch.specs.Walk.{Walk, going, stopped, limit, after, step, walkOf, walkAnswer, walkedAnswer}
@@ -20,6 +23,13 @@ use Rattle.batch.specs.declared.Lengths.{Lengths}
 use Rattle.batch.specs.declared.Walked.{Walked}
 use Rattle.batch.specs.declared.Walked.the-variants.{Stopped, Going}
 use Rattle.batch.proofs.WalkLaws.{walk-next}
+
+-- A header that is refused by itself is refused so by the table of its command.
+pub header-ruled : (h : Header) (p : Progress) (ws : List ℕ) (n word : ℕ) → headerAnswer 0 h ≡ Refused n word → judged (rulesOf h p ws) ≡ Refused n word
+unfolding rulesOf
+header-ruled (headers.Known o m) p ws n word e = absurd (no-accepted (sym e))
+header-ruled (headers.Carried m) p ws n word e = absurd (no-accepted (sym e))
+header-ruled headers.Unknown p ws n word e = e
 
 -- What a run of words came to answers what its walk answers.
 pub walked-answer : (base : ℕ) (ws : List ℕ) (r : Walked) → walkAnswer (walkOf base ws r) ≡ walkedAnswer r

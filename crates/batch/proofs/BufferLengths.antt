@@ -4,7 +4,7 @@ use mathlib.Core.Logic.{_⊎_, inl, inr}
 use mathlib.Core.Path.{_≡_, refl, sym, ap, subst, _∙_}
 use Prim.Native.Nat.{ℕ, zero, suc, _≤_}
 use native.Mathlib.Omega.{arith}
-use lib.ListN.{length, getD}
+use lib.ListN.{getD}
 use Rattle.prediction.specs.Extents.{Exact}
 use Rattle.prediction.specs.declared.Extent.{Extent}
 use Rattle.progress.specs.Buffers.{Buffer, source, reconstructed, forward, backward, bufferNumber, extentOf}

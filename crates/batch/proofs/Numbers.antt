@@ -25,6 +25,7 @@ use Rattle.batch.specs.declared.Lengths.{Lengths}
 use Rattle.batch.specs.declared.Report.the-variants as answers
 use Rattle.batch.specs.declared.Reported.{Reported}
 use Rattle.batch.proofs.Measuring.{outcome}
+use Rattle.batch.proofs.WalkLaws.{Counted, counted-step, counted-fold}
 use Rattle.batch.specs.Outcomes.{Outcome, enough, short}
 
 -- the numbers with which a walk stops within so many words, and where
@@ -32,7 +33,7 @@ abbrev StopNumber : ℕ → ℕ → ℕ → Type 0
 StopNumber k n place = ((2 ≤ n) × (n ≤ 12) × (place < k)) ⊎ ((n ≡ 27) × (place ≡ limit))
 
 abbrev Numbered : ℕ → Walk → Type 0
-Numbered k (going at p g) = at + length g ≡ k
+Numbered k (going at p g) = Unit {0}
 Numbered k (stopped n place) = StopNumber k n place
 
 later : (k n place : ℕ) → StopNumber k n place → StopNumber (k + 1) n place
@@ -40,15 +41,15 @@ later k n place (inl h) = inl (h .0, h .1, omega (arith, h .2))
 later k n place (inr h) = inr h
 
 -- a command that was judged
-numbered-after : (k at next : ℕ) (v : Verdict) → next ≡ k → ((n w : ℕ) → v ≡ Stop n w → (2 ≤ n) × (n ≤ 12) × (at + w < k)) → Numbered k (after at next v)
+numbered-after : (k at next : ℕ) (v : Verdict) → ((n w : ℕ) → v ≡ Stop n w → (2 ≤ n) × (n ≤ 12) × (at + w < k)) → Numbered k (after at next v)
 unfolding after
-numbered-after k at next (Next q) e h = omega arith
-numbered-after k at next (Stop n w) e h = inl (h n w refl)
+numbered-after k at next (Next q) h = tt
+numbered-after k at next (Stop n w) h = inl (h n w refl)
 
-numbered-step : (k : ℕ) (s : Walk) (w : ℕ) → Numbered k s → Numbered (k + 1) (step s w)
+numbered-step : (k : ℕ) (s : Walk) (w : ℕ) → Counted k s → Numbered k s → Numbered (k + 1) (step s w)
 unfolding step
-numbered-step k (stopped n place) w h = later k n place h
-numbered-step k (going at p g) w e = by (leb limit (at + length g)) (p .stage .ended) (eqb w 0) (eqb (wordsIn h) 0) (ltb (length g+) (wordsIn h)) refl refl
+numbered-step k (stopped n place) w e h = later k n place h
+numbered-step k (going at p g) w e _ = by (leb limit (at + length g)) (p .stage .ended) (eqb w 0) (eqb (wordsIn h) 0) (ltb (length g+) (wordsIn h)) refl refl
   where
     g+ : List ℕ
     g+ = g ++ (w ∷ [])
@@ -65,27 +66,27 @@ numbered-step k (going at p g) w e = by (leb limit (at + length g)) (p .stage .e
         (cond z (going (at + length g + 1) p []) (stopped 12 (at + length g)))
         (cond unknown (stopped 2 at) (cond more (going at p g+) (after at (at + length g+) (judge h p g+))))))
     by true ended z unknown more u m = inr (refl, refl)
-    by false true true unknown more u m = omega arith
+    by false true true unknown more u m = tt
     by false true false unknown more u m = inl (omega arith, omega arith, omega arith)
     by false false z true more u m = inl (omega arith, omega arith, omega arith)
-    by false false z false true u m = all
+    by false false z false true u m = tt
     by false false z false false u m =
         let whole = ltb-false (length g+) (wordsIn h) m in
-        numbered-after (k + 1) at (at + length g+) (judge h p g+) all
+        numbered-after (k + 1) at (at + length g+) (judge h p g+)
         (λ n x j. let near = stops-within h p g+ n x j in
         let own = stops-inside (wordAt g+ 0) p g+ n x j u in
         (near .0, near .1, omega (arith, own, whole, all)))
 
-numbered-fold : (k : ℕ) (s : Walk) (ws : List ℕ) → Numbered k s → Numbered (k + length ws) (foldl step s ws)
-numbered-fold k s [] h = rw add-zero h
-numbered-fold k s (w ∷ ws) h =
-    let e : k + suc (length ws) ≡ k + 1 + length ws = omega arith in
-    rw e (numbered-fold (k + 1) (step s w) ws (numbered-step k s w h))
+numbered-fold : (k : ℕ) (s : Walk) (ws : List ℕ) → Counted k s → Numbered k s → Numbered (k + length ws) (foldl step s ws)
+numbered-fold k s [] e h = rw add-zero h
+numbered-fold k s (w ∷ ws) e h =
+    let sum : k + suc (length ws) ≡ k + 1 + length ws = omega arith in
+    rw sum (numbered-fold (k + 1) (step s w) ws (counted-step k s w e) (numbered-step k s w e h))
 
 -- A batch is refused by one of its rules, by 27, or, where it lacks END, by 1 at the words given.
 pub refused-by : (ws : List ℕ) (n place : ℕ) → verdictOf ws ≡ Stop n place → RefusedBy (length ws) n place
 unfolding verdictOf
-refused-by ws n place e = by (foldl step start ws) (rw zero-add at (numbered-fold 0 start ws refl)) e
+refused-by ws n place e = by (foldl step start ws) (rw zero-add at (counted-fold 0 start ws refl)) (rw zero-add at (numbered-fold 0 start ws refl tt)) e
   where
     lacks : (p : Progress) (at : ℕ) → at ≡ length ws → (ended : Bool) → cond ended (Next p) (Stop 1 at) ≡ Stop n place → RefusedBy (length ws) n place
     lacks p at all true e = let z : _≡_ {A = ℕ} 0 1 = cc in absurd (omega arith)
@@ -95,9 +96,9 @@ refused-by ws n place e = by (foldl step start ws) (rw zero-add at (numbered-fol
     stops (inl k) = broken (k .0) (k .1) (k .2)
     stops (inr k) = too-many (k .0) (k .1)
 
-    by : (s : Walk) → Numbered (length ws) s → ending s ≡ Stop n place → RefusedBy (length ws) n place
-    by (stopped m q) k e = let i : m ≡ n = cc in let j : q ≡ place = cc in stops (rw (i, j) at k)
-    by (going at p g) k e = lacks p (at + length g) k (p .stage .ended) e
+    by : (s : Walk) → Counted (length ws) s → Numbered (length ws) s → ending s ≡ Stop n place → RefusedBy (length ws) n place
+    by (stopped m q) c k e = let i : m ≡ n = cc in let j : q ≡ place = cc in stops (rw (i, j) at k)
+    by (going at p g) c k e = lacks p (at + length g) c (p .stage .ended) e
 
 -- The number is none but 1 to 12 and 27.
 pub verdict-numbers : (ws : List ℕ) (n place : ℕ) → verdictOf ws ≡ Stop n place → ((1 ≤ n) × (n ≤ 12)) ⊎ (n ≡ 27)

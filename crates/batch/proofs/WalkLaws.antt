@@ -112,18 +112,18 @@ one-word P at p g w refuses ends gathers =
     (λ _. by-verdict P at (at + length (g ++ (w ∷ []))) (judge c p (g ++ (w ∷ []))) refuses
     (λ q. subst (λ (k : ℕ). P (going k q [])) next (ends below q))))))
 
--- a walk that goes on has come to word n
-abbrev Counted : ℕ → Walk → Type 0
+-- A walk that goes on has come to word n.
+abbrev pub Counted : ℕ → Walk → Type 0
 Counted n (going at p g) = at + length g ≡ n
 Counted n (stopped k place) = Unit
 
-counted-step : (n : ℕ) (s : Walk) (w : ℕ) → Counted n s → Counted (n + 1) (step s w)
+pub counted-step : (n : ℕ) (s : Walk) (w : ℕ) → Counted n s → Counted (n + 1) (step s w)
 counted-step n (stopped k place) w h = unfold step in tt
 counted-step n (going at p g) w h =
     let len : length (g ++ (w ∷ [])) ≡ length g + 1 = length-append g (w ∷ []) in
     one-word (Counted (n + 1)) at p g w (λ _ _. tt) (λ _ _. omega arith) (λ _ _ _. omega arith)
 
-counted-fold : (n : ℕ) (s : Walk) (ws : List ℕ) → Counted n s → Counted (n + length ws) (foldl step s ws)
+pub counted-fold : (n : ℕ) (s : Walk) (ws : List ℕ) → Counted n s → Counted (n + length ws) (foldl step s ws)
 counted-fold n s [] h = rw add-zero h
 counted-fold n s (w ∷ ws) h =
     let e : n + suc (length ws) ≡ n + 1 + length ws = omega arith in

@@ -1,7 +1,7 @@
 -- Whole batches beside document 01's P1 to P13, and what document 01 says of each.
 -- To be believed: numbers, places and lengths are worked out by hand from document 01 and from R-3 of document 02.
 use Prim.Native.Nat.{ℕ, _+_}
-use mathlib.Core.List.{List, [], _∷_, _++_, map}
+use mathlib.Core.List.{List, [], _∷_, _++_}
 use lib.ListN.{length, take, drop, set, replicate}
 use Rattle.batch.specs.Reports.{reportNumber, reportPlace, reportedOf, report}
 use Rattle.batch.specs.declared.Lengths.{Lengths}

@@ -13,7 +13,7 @@ use Rattle.headers.specs.declared.Header.{Header}
 use Rattle.headers.specs.declared.Opcode.the-variants.{Macroblock}
 use Rattle.headers.proofs.HeaderLaws.{head-stays, macroblock-words}
 use Rattle.macroblock.specs.Legal.{Words}
-use Rattle.commands.specs.Commands.{Command, command, cut, commandsOf, macroblocksIn}
+use Rattle.commands.specs.Commands.{command, cut, commandsOf, macroblocksIn}
 
 words-both : (xs ys : List ℕ) → Words xs → Words ys → Words (xs ++ ys)
 words-both [] ys h k = k

@@ -2,4 +2,5 @@
 pub mod CommandWords
 pub mod CutLaws
 pub mod Gathering
+pub mod HeaderAnswers
 pub mod ListLaws

@@ -39,5 +39,6 @@ summaryReading s =
       reported = s .lengths .source ∷ s .lengths .reconstructed ∷ s .lengths .forward ∷ s .lengths .backward ∷ [];
     }
 
+-- And the fields of the struct for one command or record.
 abbrev pub outcomeFields : Outcome → List ℕ
 outcomeFields o = o .number ∷ o .place ∷ []

@@ -3,7 +3,6 @@
 use Prim.Native.Nat.{ℕ, _+_, _*_}
 use mathlib.Core.List.{List, [], _∷_, _++_, map}
 use lib.ListN.{set, replicate}
-use Rattle.prediction.specs.declared.Grid.{Grid}
 use Rattle.answers.specs.Answers.{Rule}
 use Rattle.answers.specs.Examples.{Example, keeping, breaking, breakingEach}
 use Rattle.headers.specs.Examples.{WordReading, reading, turnedIn}

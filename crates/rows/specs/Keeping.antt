@@ -21,7 +21,7 @@ use Rattle.rows.specs.Rows.{previousIn}
 use Rattle.rows.specs.Steps.{placeIn, reachIn}
 use Rattle.rows.specs.Words.{dueBits}
 
--- ---- all rules of a command
+-- Every rule of a command where it comes, one by one.
 pub record Keeps (q : Progress) (c : List ℕ) : Type 0 where
   pub sequence : inSequence (q .stage) (q .picture .grid) (q .position) ≡ true
   pub coding : codingPermits (q .picture .coding) (motionOf (macroblockOf c .case) .kind) ≡ true

@@ -15,7 +15,6 @@ use Rattle.macroblock.specs.Macroblocks.{kindIn, flagsIn}
 use Rattle.prediction.specs.Extents.{joined}
 use Rattle.prediction.specs.Lines.{chromaHighest}
 use Rattle.prediction.specs.declared.Extent.{Extent}
-use Rattle.prediction.specs.declared.Position.{Position}
 use Rattle.progress.specs.declared.Extents.{Extents}
 use Rattle.progress.specs.declared.Previous.{Previous}
 use Rattle.placement.specs.Progressing.{positionAfter, stageAfter, previousOf, macroblockNext}

@@ -10,7 +10,6 @@ use Rattle.fields.specs.Word.{bits, withBits}
 use Rattle.prediction.specs.Extents.{joined}
 use Rattle.prediction.specs.Lines.{lineOf, vectorInLines, reachOf}
 use Rattle.prediction.specs.declared.Extent.{Extent}
-use Rattle.prediction.specs.declared.Line.{Line}
 use Rattle.prediction.specs.declared.Position.{Position}
 use Rattle.headers.specs.Headers.{macroblockHeader}
 use Rattle.headers.specs.Words.{wordAt}

@@ -105,11 +105,6 @@ judge-answer h p ws = by (judged (rulesOf h p ws))
     by Accepted = refl
     by (Refused n w) = refl
 
--- A word that begins no command is refused as such.
-pub unknown-answer : (p : Progress) (ws : List ℕ) → judged (rulesOf Unknown p ws) ≡ Refused 2 0
-unfolding rulesOf
-unknown-answer p ws = refl
-
 -- A MACROBLOCK is judged by the rules of its picture and those that it keeps by itself, and no others.
 pub macroblock-table : (n : ℕ) (p : Progress) (ws : List ℕ) → rulesOf (Known Macroblock n) p ws ≡ macroblockRules p ws
 unfolding rulesOf
