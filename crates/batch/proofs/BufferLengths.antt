@@ -1,18 +1,19 @@
--- Demand 3 of the check whole, and of every operation that answers what the check whole answers or 14.
+-- Demand 3 of the check whole, and of every operation that answers what the check whole answers or 14; first bytes are exact as lengths are.
 use mathlib.Core.List.{List}
 use mathlib.Core.Logic.{_⊎_, inl, inr}
 use mathlib.Core.Path.{_≡_, refl, sym, ap, subst, _∙_}
-use Prim.Native.Nat.{ℕ, zero, suc, _≤_}
+use Prim.Native.Nat.{ℕ, zero, suc, _+_, _≤_, _<_}
+use native.Mathlib.Nat.{eq-zero-or-pos}
 use native.Mathlib.Omega.{arith}
-use lib.ListN.{getD}
+use lib.ListN.{length, getD}
 use Rattle.prediction.specs.Extents.{Exact}
 use Rattle.prediction.specs.declared.Extent.{Extent}
-use Rattle.progress.specs.Buffers.{Buffer, source, reconstructed, forward, backward, bufferNumber, extentOf}
+use Rattle.progress.specs.Buffers.{Buffer, source, reconstructed, forward, backward, bufferNumber, buffers, extentOf}
 use Rattle.progress.specs.declared.Progress.{Progress}
 use Rattle.progress.specs.declared.Verdict.{Verdict}
 use Rattle.progress.specs.declared.Verdict.the-variants.{Next, Stop}
-use Rattle.batch.specs.Demand.{Reading, readingOf, KeepsOthers, IsLength, lengthFor, reportedFor, TooShort, AllEnough, NamesLowest, Demand3, Checked}
-use Rattle.batch.specs.Reports.{reportNumber, reportPlace, reportable, lengthIn, valuesOf, reportedOf, measured, concluding, verdictOf, report}
+use Rattle.batch.specs.Demand.{Reading, readingOf, KeepsOthers, IsLength, IsFirst, lengthFor, firstFor, TooShort, AllEnough, NamesLowest, Demand3, Checked}
+use Rattle.batch.specs.Reports.{reportNumber, reportPlace, reportable, lengthIn, firstIn, valuesOf, reportedOf, measured, concluding, verdictOf, report}
 use Rattle.batch.specs.Touched.{Touched}
 use Rattle.batch.specs.declared.Lengths.{Lengths}
 use Rattle.batch.specs.declared.Report.{Report}
@@ -45,7 +46,7 @@ verdict-measured : (ws : List ℕ) (p : Progress) → verdictOf ws ≡ Next p �
 unfolding report
 verdict-measured ws p v l = ap (concluding l) v
 
--- An exact extent is the demand's length.
+-- The end of an exact extent is the demand's length, and its first byte is document 02's (R-8).
 pub exact-length : {T : ℕ → Type 0} (e : Extent) → Exact T e → IsLength T (e .end)
 exact-length {T} e x = by (e .end) refl
   where
@@ -55,6 +56,13 @@ exact-length {T} e x = by (e .end) refl
         let r = x .reached (omega arith) in
         let top : r .0 ≡ n = omega (arith, r .2) in
         inr (r .0, r .1, (λ other t. let l = x .below other t in omega (arith, r .2)), omega arith)
+
+pub exact-first : {T : ℕ → Type 0} (e : Extent) → Exact T e → IsFirst T (e .first)
+exact-first {T} e x = by (eq-zero-or-pos (e .end))
+  where
+    by : (e .end ≡ 0) ⊎ (0 < e .end) → IsFirst T (e .first)
+    by (inl z) = inl (λ byte t. absurd (let l = x .below byte t in omega arith), x .untouched z)
+    by (inr h) = inr (x .begun h, x .from)
 
 -- What an operation makes of the answer to the whole batch: it leaves a refusal by 13 as it is, and may refuse an accepted batch by 14,
 -- for want of room.
@@ -69,14 +77,13 @@ pub record Settles (Room : Type 0) (settle : Report → Report) : Type 0 where
 pub settles-nothing : Settles (Unit {0}) (λ r. r)
 settles-nothing = record { keeps-13 = λ place v. refl; accepts = λ v. inl refl }
 
-reported-for : (v : Reported) (r : Report) (b : Buffer) → reportedOf r ≡ valuesOf v → reportedFor b r ≡ lengthIn b v
-reported-for v r b h = ap (λ (n : List ℕ). getD n (bufferNumber b) 0) h ∙ by b
-  where
-    by : (b : Buffer) → getD (valuesOf v) (bufferNumber b) 0 ≡ lengthIn b v
-    by source = refl
-    by reconstructed = refl
-    by forward = refl
-    by backward = refl
+-- where the values stand in the list of what is reported
+value-places : (v : Reported) (b : Buffer)
+    → (getD (valuesOf v) (bufferNumber b) 0 ≡ lengthIn b v) × (getD (valuesOf v) (length buffers + bufferNumber b) 0 ≡ firstIn b v)
+value-places v source = (refl, refl)
+value-places v reconstructed = (refl, refl)
+value-places v forward = (refl, refl)
+value-places v backward = (refl, refl)
 
 module _ (ws : List ℕ) (v : Reported) (Room : Type 0) (settle : Report → Report) (settles : Settles Room settle) (l : Lengths) (r : Report) (is : r ≡ settle (measured v l)) where
   -- what is reported
@@ -91,8 +98,15 @@ module _ (ws : List ℕ) (v : Reported) (Room : Type 0) (settle : Report → Rep
       by (enough all m) = room (settles .accepts v) m
       by (short c s low m) = ap reportedOf (is ∙ ap settle m ∙ settles .keeps-13 (bufferNumber c) v)
 
-  for : (b : Buffer) → reportedFor b r ≡ lengthIn b v
-  for b = reported-for v r b reports
+  -- each number of it, whichever value it is
+  nth : (k : ℕ) → getD (reportedOf r) k 0 ≡ getD (valuesOf v) k 0
+  nth k = ap (λ (n : List ℕ). getD n k 0) reports
+
+  for : (b : Buffer) → lengthFor b (readingOf r) ≡ lengthIn b v
+  for b = nth (bufferNumber b) ∙ value-places v b .0
+
+  first : (b : Buffer) → firstFor b (readingOf r) ≡ firstIn b v
+  first b = nth (length buffers + bufferNumber b) ∙ value-places v b .1
 
   -- every buffer is long enough, and nothing else is refused
   all-long : AllEnough (readingOf r) l → r ≡ settle (Accepted v)
@@ -138,11 +152,12 @@ pub demand-by : (ws : List ℕ) (Room : Type 0) (settle : Report → Report) →
 demand-by ws Room settle settles Answers answers l₀ kept =
     record {
       exact = λ l r a b. subst (IsLength (Touched ws b)) (sym (for ws v Room settle settles l r (is l r a) b)) (exact-length (extentOf b (v .extents)) (exactly b));
+      first-exact = λ l r a b. subst (IsFirst (Touched ws b)) (sym (first ws v Room settle settles l r (is l r a) b)) (exact-first (extentOf b (v .extents)) (exactly b));
       passes = λ l r a. passing ws v Room settle settles l r (is l r a);
       only-then = λ l r a. only ws v Room settle settles l r (is l r a);
       one-less = λ l r a b byte t h passed. absurd (let n = names ws v Room settle settles l r (is l r a) b (omega (arith, h)) .is-13 in omega (arith, n, passed));
       lowest-named = λ l r a. names ws v Room settle settles l r (is l r a);
-      same-lengths = λ l k r q a c. reports ws v Room settle settles l r (is l r a) ∙ sym (reports ws v Room settle settles k q (is k q c));
+      same-reported = λ l k r q a c. reports ws v Room settle settles l r (is l r a) ∙ sym (reports ws v Room settle settles k q (is k q c));
       same-answer = λ l k r q a c h i. all-long ws v Room settle settles l r (is l r a) h ∙ sym (all-long ws v Room settle settles k q (is k q c) i);
     }
   where
@@ -166,15 +181,16 @@ pub demand-through : {A B : Type 0} (read : A → Reading) (seen : B → Reading
 demand-through {A = A} {B = B} read seen made alike ws Room Answers Gives from d =
     record {
       exact = λ l r g b. subst (λ (x : Reading). IsLength (Touched ws b) (lengthFor b x)) (sym (same l r g)) (d .exact l (by l r g) (answers l r g) b);
+      first-exact = λ l r g b. subst (λ (x : Reading). IsFirst (Touched ws b) (firstFor b x)) (sym (same l r g)) (d .first-exact l (by l r g) (answers l r g) b);
       passes = λ l r g room h. ap (λ (x : Reading). x .number) (same l r g) ∙ d .passes l (by l r g) (answers l r g) room (enough-by l r g h);
       only-then = λ l r g e. subst (λ (x : Reading). AllEnough x l) (sym (same l r g)) (d .only-then l (by l r g) (answers l r g) (passed-by l r g e));
       one-less = λ l r g b byte t h e.
           d .one-less l (by l r g) (answers l r g) b byte t (h ∙ ap (lengthFor b) (same l r g)) (passed-by l r g e);
       lowest-named = λ l r g b t.
           subst (λ (x : Reading). NamesLowest x l) (sym (same l r g)) (d .lowest-named l (by l r g) (answers l r g) b (subst (λ (x : Reading). TooShort x l b) (same l r g) t));
-      same-lengths = λ l k r q g h.
+      same-reported = λ l k r q g h.
           ap (λ (x : Reading). x .reported) (same l r g)
-          ∙ d .same-lengths l k (by l r g) (by k q h) (answers l r g) (answers k q h)
+          ∙ d .same-reported l k (by l r g) (by k q h) (answers l r g) (answers k q h)
           ∙ sym (ap (λ (x : Reading). x .reported) (same k q h));
       same-answer = λ l k r q g h i j.
           from l r g .2

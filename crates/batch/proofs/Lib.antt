@@ -2,6 +2,7 @@
 pub mod Answering
 pub mod BufferLengths
 pub mod CommandList
+pub mod Measuring
 pub mod Numbers
 pub mod ReadAlone
 pub mod Runs
@@ -9,4 +10,3 @@ pub mod WalkLaws
 -- for this crate alone
 mod Batches
 mod Exactness
-mod Measuring

@@ -1,4 +1,4 @@
--- What is measured under lengths.
+-- What is measured under lengths, and that it depends on the ends alone.
 use mathlib.Core.Bool.{Bool, true, false}
 use mathlib.Core.List.{List, [], _∷_}
 use mathlib.Core.Path.{_≡_, refl, ap, _∙_}
@@ -6,14 +6,16 @@ use Prim.Native.Nat.{_≤_, _<_}
 use native.Mathlib.Omega.{arith}
 use borrow.Author.Tests.{leb-true, leb-false}
 use lib.Dec.{leb}
-use Rattle.answers.specs.Answers.{Rule, rule}
+use Rattle.answers.specs.Answers.{Rule, rule, judged}
+use Rattle.answers.specs.declared.Answer.{Answer}
+use Rattle.answers.specs.declared.Answer.the-variants.{Accepted, Refused}
 use Rattle.answers.proofs.Judging.{in-order}
 use Rattle.progress.specs.Buffers.{Buffer, source, reconstructed, forward, backward, bufferNumber}
-use Rattle.batch.specs.Reports.{lengthIn, lengthOf, bufferRules, reporting, measured}
+use Rattle.batch.specs.Reports.{reportNumber, reportPlace, lengthIn, lengthOf, bufferRules, reporting, measured}
 use Rattle.batch.specs.declared.Lengths.{Lengths}
 use Rattle.batch.specs.declared.Reported.{Reported}
 use Rattle.answers.specs.Tables.{firstBroken}
-use Rattle.batch.specs.Outcomes.{Outcome, enough, short}
+use Rattle.batch.specs.Outcomes.{Outcome, enough, short, SameEnds}
 
 module _ (reported : Reported) (l : Lengths) where
   abbrev Long : Buffer → Type 0
@@ -70,3 +72,18 @@ module _ (reported : Reported) (l : Lengths) where
       by true true true false es er ef ek =
           short backward (not-so backward ek) (below-3 (yes source es) (yes reconstructed er) (yes forward ef)) (lowest-first ∙ simp (es, er, ef, ek))
       by true true true true es er ef ek = enough (all-four (yes source es) (yes reconstructed er) (yes forward ef) (yes backward ek)) (lowest-first ∙ simp (es, er, ef, ek))
+
+-- Document 02, R-8: "The verdict still depends on the end alone." Number and place are the same wherever the touched bytes begin.
+pub ends-alone : (r q : Reported) (l : Lengths) → SameEnds r q
+    → (reportNumber (measured r l) ≡ reportNumber (measured q l)) × (reportPlace (measured r l) ≡ reportPlace (measured q l))
+unfolding measured bufferRules
+ends-alone r q l same =
+    let rules : bufferRules (r .extents) l ≡ bufferRules (q .extents) l = rw (same source, same reconstructed, same forward, same backward) in
+    let answer = judged (bufferRules (q .extents) l) in (
+      ap (λ (t : List Rule). reportNumber (reporting r (judged t))) rules ∙ by answer .0,
+      ap (λ (t : List Rule). reportPlace (reporting r (judged t))) rules ∙ by answer .1,
+    )
+  where
+    by : (a : Answer) → (reportNumber (reporting r a) ≡ reportNumber (reporting q a)) × (reportPlace (reporting r a) ≡ reportPlace (reporting q a))
+    by Accepted = (refl, refl)
+    by (Refused n place) = (refl, refl)

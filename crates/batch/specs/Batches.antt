@@ -1,5 +1,5 @@
 -- Whole batches beside document 01's P1 to P13, and what document 01 says of each.
--- To be believed: numbers, places and lengths are worked out by hand from document 01 and from R-3 of document 02.
+-- To be believed: numbers, places, lengths and first bytes are worked out by hand from document 01 and from R-3 and R-8 of document 02.
 use Prim.Native.Nat.{ℕ, _+_}
 use mathlib.Core.List.{List, [], _∷_, _++_}
 use lib.ListN.{length, take, drop, set, replicate}
@@ -7,7 +7,7 @@ use Rattle.batch.specs.Reports.{reportNumber, reportPlace, reportedOf, r
 use Rattle.batch.specs.declared.Lengths.{Lengths}
 use Rattle.batch.specs.declared.Report.{Report}
 
--- Words beside four lengths, and what is due to them: number, place, and the four lengths reported.
+-- Words beside four lengths, and what is due to them: number, place, and the four lengths and four first bytes reported.
 pub record BatchCase : Type 0 where
   pub words : List ℕ
   pub lengths : Lengths
@@ -27,9 +27,9 @@ four a b c d = a ∷ b ∷ c ∷ d ∷ []
 abbrev pub zeros : ℕ → List ℕ
 zeros n = replicate n 0
 
--- "The four lengths are reported with 0, 13 and 14, else zeros."
+-- "The four lengths are reported with 0, 13 and 14, else zeros."; "The first bytes are reported whenever the lengths are, else zeros".
 abbrev pub refusedCase : List ℕ → Lengths → ℕ → ℕ → BatchCase
-refusedCase ws l n at = batchCase ws l n at (zeros 4)
+refusedCase ws l n at = batchCase ws l n at (zeros 8)
 
 -- What the definitions answer to a case, and what is due.
 abbrev pub shown : Report → List ℕ
@@ -85,8 +85,8 @@ written ws at new = take at ws ++ new ++ drop (at + length new) ws
 -- In the pictures below SURFACE begins at word 0, PICTURE at 6, SLICEGROUP at 19, the macroblocks at 27, 36, 45, 54, 63 and 72, END
 -- at 81; they have 82 words, and each row is a slice. The pitch is 256 and all columns are below 128, so that a byte at column b, row r
 -- is at (r div 32)·8192 + (b div 16)·512 + (r mod 32)·16 + b mod 16. Luma rows are below 32 and chroma rows begin at 40: the highest
--- byte of a block is its last Cr sample. Of all macroblocks' own samples it is Cr (23, 15): row 55, column 47, at
--- 8192 + 1024 + 368 + 15 = 9599.
+-- byte of a block is its last Cr sample, and the lowest its first luma sample. Of all macroblocks' own samples these are Cr (23, 15), row
+-- 55, column 47, at 8192 + 1024 + 368 + 15 = 9599, and luma (0, 0), at 0.
 --
 -- A B picture, f codes forward 1 (x) and 2 (y), backward 3 and 4: components from −16 to 15, −32 to 31, −64 to 63, −128 to 127.
 unfoldable pub bPicture : List ℕ
@@ -94,18 +94,23 @@ bPicture =
     surface
     ++ picture 0x43213400 0x600
     ++ group
-    -- (15, 31): chroma 7 and 15, columns 3 to 11, rows 7 to 15. Cr (11, 15): row 55, column 23, at 8192 + 512 + 368 + 7 = 9079.
+    -- (15, 31): chroma 7 and 15, columns 3 to 11, rows 7 to 15. Cr (11, 15): row 55, column 23, at 8192 + 512 + 368 + 7 = 9079. Luma
+    -- (7, 15): at 240 + 7 = 247.
     ++ macroblock 0x12340100 0x00000000 0xFF100140 0x4900001F (alike 0x001F000F)
-    -- (−20, 32): chroma −10 and 16, columns 3 to 10, rows 8 to 15. Cr (10, 15): row 55, column 21, at 8192 + 512 + 368 + 5 = 9077.
+    -- (−20, 32): chroma −10 and 16, columns 3 to 10, rows 8 to 15. Cr (10, 15): row 55, column 21, at 8192 + 512 + 368 + 5 = 9077. Luma
+    -- (6, 16): at 256 + 6 = 262.
     ++ macroblock 0x00000200 0x00000001 0x00000FC0 0x02000002 (alike 0x0020FFEC)
-    -- (−5, 9): chroma −2 and 4, columns 15 to 22, rows 2 to 9. Cr (22, 9): row 49, column 45, at 8192 + 1024 + 272 + 13 = 9501.
-    -- (−63, 7): chroma −31 and 3, columns 0 to 8, rows 1 to 9. Cr (8, 9): row 49, column 17, at 8192 + 512 + 272 + 1 = 8977.
+    -- (−5, 9): chroma −2 and 4, columns 15 to 22, rows 2 to 9. Cr (22, 9): row 49, column 45, at 8192 + 1024 + 272 + 13 = 9501. Luma
+    -- (29, 4): at 512 + 64 + 13 = 589.
+    -- (−63, 7): chroma −31 and 3, columns 0 to 8, rows 1 to 9. Cr (8, 9): row 49, column 17, at 8192 + 512 + 272 + 1 = 8977. Luma (0, 3):
+    -- at 48.
     ++ macroblock 0x00000300 0x00000002 0x00000000 0x80000003 (both 0x0009FFFB 0x0007FFC1)
-    -- As the next one, eight chroma columns further left.
+    -- As the next one, eight chroma columns further left. Luma (7, 14): at 224 + 7 = 231; backward (15, 0): at 15.
     ++ macroblock 0x00000300 0x00010000 0x00000040 0x40000004 (both 0xFFFD000F 0xFFE0001E)
     -- Skipped. (15, −3): chroma 7 and −1, columns 11 to 19, rows 7 to 15. Cr (19, 15): row 55, column 39, at
-    -- 8192 + 1024 + 368 + 7 = 9591.
-    -- (30, −32): chroma 15 and −16, columns 15 to 23, rows 0 to 7. Cr (23, 7): row 47, column 47, at 8192 + 1024 + 240 + 15 = 9471.
+    -- 8192 + 1024 + 368 + 7 = 9591. Luma (23, 14): at 512 + 224 + 7 = 743.
+    -- (30, −32): chroma 15 and −16, columns 15 to 23, rows 0 to 7. Cr (23, 7): row 47, column 47, at 8192 + 1024 + 240 + 15 = 9471. Luma
+    -- (31, 0): at 512 + 15 = 527.
     ++ macroblock 0x00000304 0x00010001 0x00000000 0x00000005 (both 0xFFFD000F 0xFFE0001E)
     ++ intra 0x00010002 0x84000006
     ++ end
@@ -134,18 +139,18 @@ bPictureSpread =
     ++ zeros 2
 
 -- A P picture, f codes forward 3 and 2. The highest byte of buffer 2 is that of the second skipped macroblock: Cr (15, 15), row 55,
--- column 31, at 8192 + 512 + 368 + 15 = 9087.
+-- column 31, at 8192 + 512 + 368 + 15 = 9087. The lowest is that of the first macroblock: luma (1, 0), at 1.
 unfoldable pub pPicture : List ℕ
 pPicture =
     surface
     ++ picture 0xFF233400 0x400
     ++ group
-    -- (2, 0): chroma 1 and 0, Cr (8, 7).
+    -- (2, 0): chroma 1 and 0, Cr (8, 7); luma (1, 0).
     ++ macroblock 0x00000100 0x00000000 0x00000040 0x41000001 (alike 0x00000002)
     ++ macroblock 0x00000104 0x00000001 0x00000000 0x00000001 (alike 0)
-    -- (−64, 4): chroma −32 and 2, Cr (7, 8).
+    -- (−64, 4): chroma −32 and 2, Cr (7, 8); luma (0, 2).
     ++ macroblock 0x00000100 0x00000002 0x00000040 0x80000001 (alike 0x0004FFC0)
-    -- (1, −1): chroma 0 and 0, Cr (7, 15).
+    -- (1, −1): chroma 0 and 0, Cr (7, 15); luma (0, 15).
     ++ macroblock 0x00000100 0x00010000 0x00000040 0x40000001 (alike 0xFFFF0001)
     ++ macroblock 0x00000104 0x00010001 0x00000000 0x00000001 (alike 0)
     ++ intra 0x00010002 0x84000001
@@ -164,23 +169,23 @@ iPicture =
     ++ intra 0x00010002 0x84000001
     ++ end
 
--- Beside four lengths that are long enough.
-abbrev accepted : List ℕ → ℕ → ℕ → ℕ → ℕ → BatchCase
-accepted ws a b c d = batchCase ws (fourLengths a b c d) 0 0 (four a b c d)
+-- Beside four lengths that are just long enough, and with four first bytes.
+abbrev accepted : List ℕ → ℕ → ℕ → ℕ → ℕ → List ℕ → BatchCase
+accepted ws a b c d firsts = batchCase ws (fourLengths a b c d) 0 0 (four a b c d ++ firsts)
 
 abbrev refused : List ℕ → ℕ → ℕ → BatchCase
 refused ws n at = refusedCase ws (fourLengths 9600 9600 9600 9600) n at
 
 -- "13 buffer too short: lowest such buffer"
 abbrev short : Lengths → ℕ → BatchCase
-short l at = batchCase bPicture l 13 at (four 9600 9600 9592 9472)
+short l at = batchCase bPicture l 13 at (four 9600 9600 9592 9472 ++ four 0 0 231 15)
 
 unfoldable pub lengthCases : List BatchCase
 lengthCases =
-    accepted bPicture 9600 9600 9592 9472
-    ∷ accepted bPictureSpread 9600 9600 9592 9472
-    ∷ accepted pPicture 9600 9600 9088 0
-    ∷ accepted iPicture 9600 9600 0 0
+    accepted bPicture 9600 9600 9592 9472 (four 0 0 231 15)
+    ∷ accepted bPictureSpread 9600 9600 9592 9472 (four 0 0 231 15)
+    ∷ accepted pPicture 9600 9600 9088 0 (four 0 0 1 0)
+    ∷ accepted iPicture 9600 9600 0 0 (four 0 0 0 0)
     ∷ short (fourLengths 9599 9599 9591 9471) 0
     ∷ short (fourLengths 9600 9599 9591 9471) 1
     ∷ short (fourLengths 9600 9600 9591 9471) 2

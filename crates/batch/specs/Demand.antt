@@ -1,11 +1,12 @@
--- Demand 3, of any operation that answers to a batch beside four lengths. What is quoted is the demand.
--- To be believed: the demand's sentences, one by one.
+-- Demand 3, of any operation that answers to a batch beside four lengths, and the first bytes beside its lengths (document 02, R-8). What is
+-- quoted without a document is the demand.
+-- To be believed: the demand's sentences and R-8's, one by one.
 use Prim.Native.Nat.{ℕ, _+_, _≤_, _<_}
 use mathlib.Core.List.{List}
 use mathlib.Core.Logic.{_⊎_}
 use mathlib.Core.Path.{_≡_}
-use lib.ListN.{getD}
-use Rattle.progress.specs.Buffers.{Buffer, bufferNumber}
+use lib.ListN.{length, getD}
+use Rattle.progress.specs.Buffers.{Buffer, bufferNumber, buffers}
 use Rattle.batch.specs.Reports.{reportNumber, reportPlace, reportedOf, lengthOf, report}
 use Rattle.batch.specs.Touched.{Touched}
 use Rattle.batch.specs.declared.Lengths.{Lengths}
@@ -32,13 +33,18 @@ IsLength T n =
     (((byte : ℕ) → T byte → ⊥) × (n ≡ 0))
     ⊎ ((byte : ℕ) × T byte × ((other : ℕ) → T other → other ≤ byte) × (n ≡ byte + 1))
 
--- The length that is reported for a buffer, and whether lengths are long enough, each or all.
+-- Document 02: "its first touched byte (0 if untouched)".
+abbrev pub IsFirst : (ℕ → Type 0) → ℕ → Type 0
+IsFirst T n = (((byte : ℕ) → T byte → ⊥) × (n ≡ 0)) ⊎ (T n × ((other : ℕ) → T other → n ≤ other))
+
+-- The length that is reported for a buffer and, behind the four lengths, the first byte.
 abbrev pub lengthFor : Buffer → Reading → ℕ
 lengthFor b a = getD (a .reported) (bufferNumber b) 0
 
-abbrev pub reportedFor : Buffer → Report → ℕ
-reportedFor b r = lengthFor b (readingOf r)
+abbrev pub firstFor : Buffer → Reading → ℕ
+firstFor b a = getD (a .reported) (length buffers + bufferNumber b) 0
 
+-- Whether lengths are long enough, each or all.
 abbrev pub Enough : Reading → Lengths → Buffer → Type 0
 Enough a l b = lengthFor b a ≤ lengthOf b l
 
@@ -60,6 +66,8 @@ pub record NamesLowest (a : Reading) (l : Lengths) : Type 0 where
 pub record Demand3 {A : Type 0} (read : A → Reading) (ws : List ℕ) (Room : Type 0) (Answers : Lengths → A → Type 0) : Type 0 where
   -- "The checker reports one length for each of the four picture buffers: zero if .., otherwise one more than the highest byte .."
   pub exact : (l : Lengths) (r : A) → Answers l r → (b : Buffer) → IsLength (Touched ws b) (lengthFor b (read r))
+  -- Document 02: "beside demand 3's length, still counted from byte 0, each buffer's report gives its first touched byte (0 if untouched)"
+  pub first-exact : (l : Lengths) (r : A) → Answers l r → (b : Buffer) → IsFirst (Touched ws b) (firstFor b (read r))
   -- "Short lent room apart, which is 14, the batch passes exactly when every buffer is at least as long as the length reported"
   pub passes : (l : Lengths) (r : A) → Answers l r → Room → AllEnough (read r) l → read r .number ≡ 0
   pub only-then : (l : Lengths) (r : A) → Answers l r → read r .number ≡ 0 → AllEnough (read r) l
@@ -67,8 +75,9 @@ pub record Demand3 {A : Type 0} (read : A → Reading) (ws : List ℕ) (Room : T
   pub one-less : (l : Lengths) (r : A) → Answers l r → (b : Buffer) (byte : ℕ) → Touched ws b byte → lengthOf b l + 1 ≡ lengthFor b (read r) → read r .number ≡ 0 → ⊥
   -- "whenever any buffer is too short the refusal is 13 and names the lowest such buffer"
   pub lowest-named : (l : Lengths) (r : A) → Answers l r → (b : Buffer) → TooShort (read r) l b → NamesLowest (read r) l
-  -- "Whatever the lengths beside the batch, the reported ones are the same."
-  pub same-lengths : (l k : Lengths) (r q : A) → Answers l r → Answers k q → read r .reported ≡ read q .reported
+  -- "Whatever the lengths beside the batch, the reported ones are the same." Document 02: "The first bytes are reported whenever the
+  -- lengths are", so these are the same too.
+  pub same-reported : (l k : Lengths) (r q : A) → Answers l r → Answers k q → read r .reported ≡ read q .reported
   -- "Under any two sets of lengths that are all long enough, the answer and the records are the same." For the records see
   -- decoding.
   pub same-answer : (l k : Lengths) (r q : A) → Answers l r → Answers k q → AllEnough (read r) l → AllEnough (read q) k → r ≡ q

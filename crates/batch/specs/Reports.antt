@@ -2,7 +2,7 @@
 -- To be believed: numbers, places and what is reported with them; 13 after the whole batch.
 use Prim.Native.Nat.{ℕ, _+_}
 use mathlib.Core.Bool.{cond}
-use mathlib.Core.List.{List, foldl, map}
+use mathlib.Core.List.{List, _++_, foldl, map}
 use lib.Dec.{leb}
 use lib.ListN.{length}
 use Rattle.answers.specs.Answers.{Rule, rule, judged}
@@ -30,21 +30,27 @@ reportPlace (answers.Accepted r) = 0
 reportPlace (answers.Short n place r) = place
 reportPlace (answers.Refused n place) = place
 
--- What is reported of a batch that has come so far with END, and the length of a buffer in it.
+-- What is reported of a batch that has come so far with END; the length of a buffer in it and, document 02 (R-8), "its first touched byte
+-- (0 if untouched)".
 abbrev pub reportable : Progress → Reported
 reportable p = record { extents = p .extents }
 
 abbrev pub lengthIn : Buffer → Reported → ℕ
 lengthIn b r = extentOf b (r .extents) .end
 
--- The numbers that are reported, in the order in which they are printed: the four lengths, in the order of the buffers.
+abbrev pub firstIn : Buffer → Reported → ℕ
+firstIn b r = extentOf b (r .extents) .first
+
+-- The numbers that are reported, in the order in which they are printed: the four lengths, and then the four first bytes ("the program
+-- prints them after the four lengths"), both in the order of the buffers.
 abbrev pub values : List (Reported → ℕ)
-values = map lengthIn buffers
+values = map lengthIn buffers ++ map firstIn buffers
 
 abbrev pub valuesOf : Reported → List ℕ
 valuesOf r = map (λ value. value r) values
 
--- "The four lengths are reported with 0, 13 and 14, else zeros."
+-- "The four lengths are reported with 0, 13 and 14, else zeros."; document 02 (R-8): "The first bytes are reported
+-- whenever the lengths are, else zeros".
 abbrev pub reportedOf : Report → List ℕ
 reportedOf (answers.Accepted r) = valuesOf r
 reportedOf (answers.Short n place r) = valuesOf r

@@ -16,8 +16,8 @@ pub struct Reported {
     pub extents: Extents,
 }
 
-// As how many numbers: document 01's four lengths.
-pub const VALUES: usize = 4;
+// As how many numbers: document 01's four lengths, and document 02's four first bytes (R-8).
+pub const VALUES: usize = 8;
 
 // What the checker answers: accepted; refused because lent memory is too short (number and place), both with what is reported; or
 // refused by another rule (number and place), with nothing.

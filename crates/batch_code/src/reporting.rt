@@ -44,5 +44,9 @@ pub fn values_of(reported: Reported) -> [u64; batch::VALUES]
         reported.extents.reconstructed.end,
         reported.extents.forward.end,
         reported.extents.backward.end,
+        reported.extents.source.first,
+        reported.extents.reconstructed.first,
+        reported.extents.forward.first,
+        reported.extents.backward.first,
     ]
 }

@@ -5,7 +5,7 @@ use Rattle.prediction.specs.Vectors.{vectorOf}
 use Rattle.prediction.specs.Ranges.{vectorInRange}
 use Rattle.prediction.specs.Addresses.{address}
 use Rattle.prediction.specs.Extents.{emptyExtent, joined}
-use Rattle.prediction.specs.Blocks.{blockAt}
+use Rattle.prediction.specs.Blocks.{blockAt, blockExtent}
 use Rattle.headers.specs.Headers.{table, lookUp, headerOf}
 use Rattle.macroblock.specs.Cases.{motionOf, caseOf, vectorWords}
 use Rattle.macroblock.specs.Macroblocks.{macroblockOf}
@@ -35,5 +35,5 @@ unfolding cases p1 moved
     blocksOf predicted forwardOf backwardOf fresh
     surfaceRules surfaceOf pictureRules pictureOf
     headerOf lookUp table commandRules fieldRules vectorRules keptBy macroblockOf caseOf motionOf vectorWords
-    vectorOf vectorInRange blockAt joined emptyExtent address
+    vectorOf vectorInRange blockAt blockExtent joined emptyExtent address
 every-case = refl

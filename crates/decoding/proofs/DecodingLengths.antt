@@ -33,7 +33,7 @@ module _ (needed : ℕ) (log : List ℕ) where
   keeps (Short n place e) k = k
   keeps (Refused n place) k = k
 
--- Demand 3 of decoding into any log: 13 comes before 14, and with 14 the same lengths are reported. That the batch keeps the other
+-- Demand 3 of decoding into any log: 13 comes before 14, and with 14 the same is reported. That the batch keeps the other
 -- rules is asked under some lengths and some log.
 pub demand-decoding : (ws : List ℕ) (l₀ : Lengths) (log₀ : List ℕ) → KeepsOthers (readingOf (decoded l₀ ws log₀))
     → (log : List ℕ) → Demand3 readingOf ws (RoomIn log ws) (DecodedInto log ws)

@@ -1,5 +1,6 @@
 -- Document 01's cases P1 to P13, and what is due to them from the check and from decoding.
--- To be believed: numbers, places, lengths and the record are the papers' own.
+-- To be believed: numbers, places, lengths, the record and P1's first bytes are the papers' own; the other first bytes are reckoned by
+-- document 02's tiles (R-3).
 use Prim.Native.Nat.{ℕ, _+_, _*_}
 use mathlib.Core.List.{List, [], _∷_, _++_}
 use lib.ListN.{take, set, replicate}
@@ -7,8 +8,8 @@ use Rattle.batch.specs.Batches.{BatchCase, batchCase, refusedCase, fourLengths,
 use Rattle.batch.specs.declared.Lengths.{Lengths}
 use Rattle.decoding.specs.Logs.{decoded, decodedLog}
 
--- A batch with what the check is to say of it, and a lent log with what decoding into it is to say and leave: number and place (the
--- four lengths reported are the check's), and the whole log afterwards.
+-- A batch with what the check is to say of it, and a lent log with what decoding into it is to say and leave: number and place (what
+-- is reported is the check's), and the whole log afterwards.
 pub record Case : Type 0 where
   pub batch : BatchCase
   pub lent : List ℕ
@@ -54,20 +55,22 @@ moved code v =
     ++ (0x05000000 ∷ [])
 
 -- P8 to P13 do not name the lengths of buffers 0 and 1. There the two macroblocks touch their own samples, of which Cr (15, 7) is
--- the highest byte: row 16 + 7, column 2·15 + 1, at 512 + 23·16 + 15 = 895. P12 and P13 name no place: it is word 5 of the first
+-- the highest byte: row 16 + 7, column 2·15 + 1, at 512 + 23·16 + 15 = 895. The lowest is luma (0, 0), at 0, and of a predicted
+-- block its first luma sample: chroma begins in the same strip of 16 columns, in row 16. P12 and P13 name no place: it is word 5 of the first
 -- macroblock, word 32.
 unfoldable pub cases : List Case
 cases =
-    -- P1: "P1 becomes 384 384 0 0" (document 02). "Record: 8 zero bytes, 3F 00 00 01 0F, 11 zero bytes"; "bytes beyond stay".
+    -- P1: "P1 becomes 384 384 0 0", and first bytes "P1: 0 0 0 0" (document 02). "Record: 8 zero bytes, 3F 00 00 01 0F, 11 zero bytes";
+    -- "bytes beyond stay".
     record {
-      batch = batchCase p1 (fourLengths 384 384 0 0) 0 0 (four 384 384 0 0);
+      batch = batchCase p1 (fourLengths 384 384 0 0) 0 0 (four 384 384 0 0 ++ four 0 0 0 0);
       lent = lentLog;
       number = 0;
       place = 0;
       afterwards = zeros 8 ++ (0x3F ∷ 0x00 ∷ 0x00 ∷ 0x01 ∷ 0x0F ∷ []) ++ zeros 11 ++ (0xAA ∷ []);
     }
     -- P2: "buffer 1 at 2959: 13, place 1"; document 02: "P2 uses 383"
-    ∷ leaving (batchCase p1 (fourLengths 384 383 0 0) 13 1 (four 384 384 0 0))
+    ∷ leaving (batchCase p1 (fourLengths 384 383 0 0) 13 1 (four 384 384 0 0 ++ four 0 0 0 0))
     -- P3: "empty: 1 at 0"
     ∷ refused [] (fourLengths 384 384 0 0) 1 0
     -- P4: "P1 without END: 1 at 36"
@@ -79,20 +82,20 @@ cases =
     -- P7: "word 31 C5000000: 5 at 31"
     ∷ refused (set p1 31 0xC5000000) (fourLengths 384 384 0 0) 5 31
     -- P8, (0,0): "P8 becomes 384"
-    ∷ accepted (moved 3 0x00000000) (fourLengths 896 896 384 0) (four 896 896 384 0)
+    ∷ accepted (moved 3 0x00000000) (fourLengths 896 896 384 0) (four 896 896 384 0 ++ four 0 0 0 0)
     -- P9, (1,0): "P9 753". Luma (16, 15) is the highest byte: 512 + 15·16 = 752.
-    ∷ accepted (moved 3 0x00000001) (fourLengths 896 896 753 0) (four 896 896 753 0)
-    -- P10, (2,0): "P10 882"
-    ∷ accepted (moved 3 0x00000002) (fourLengths 896 896 882 0) (four 896 896 882 0)
-    -- P11, (32,0): "P11 896"
-    ∷ accepted (moved 3 0x00000020) (fourLengths 896 896 896 0) (four 896 896 896 0)
+    ∷ accepted (moved 3 0x00000001) (fourLengths 896 896 753 0) (four 896 896 753 0 ++ four 0 0 0 0)
+    -- P10, (2,0): "P10 882". Luma (1, 0) is the lowest byte.
+    ∷ accepted (moved 3 0x00000002) (fourLengths 896 896 882 0) (four 896 896 882 0 ++ four 0 0 1 0)
+    -- P11, (32,0): "P11 896". Luma (16, 0) is the lowest byte, at 512.
+    ∷ accepted (moved 3 0x00000020) (fourLengths 896 896 896 0) (four 896 896 896 0 ++ four 0 0 512 0)
     -- P12: "(33,0), (−1,0) and (0,1): 10"
     ∷ refused (moved 3 0x00000021) (fourLengths 4000 4000 4000 4000) 10 32
     ∷ refused (moved 3 0x0000FFFF) (fourLengths 4000 4000 4000 4000) 10 32
     ∷ refused (moved 3 0x00010000) (fourLengths 4000 4000 4000 4000) 10 32
     -- P13: "f code 1: (15,0) passes, (16,0): 9". Chroma of 15 is 7: nine columns from 3 on, so Cr (11, 7) is the highest byte:
-    -- row 23, column 23, at 512 + 23·16 + 7 = 887.
-    ∷ accepted (moved 1 0x0000000F) (fourLengths 896 896 888 0) (four 896 896 888 0)
+    -- row 23, column 23, at 512 + 23·16 + 7 = 887. Luma (7, 0) is the lowest.
+    ∷ accepted (moved 1 0x0000000F) (fourLengths 896 896 888 0) (four 896 896 888 0 ++ four 0 0 7 0)
     ∷ refused (moved 1 0x00000010) (fourLengths 4000 4000 4000 4000) 9 32
     ∷ []
 

@@ -31,7 +31,7 @@ logOf ws = flatten (map recordAlone (macroblocksIn (commandsOf ws)))
 abbrev pub logLength : Grid → ℕ
 logLength g = recordLength * (g .columns * g .rows)
 
--- "14 lent room too small: bytes or words needed"; "14 last". The four lengths are reported with it.
+-- "14 lent room too small: bytes or words needed"; "14 last". The same is reported with it as without.
 abbrev pub roomed : ℕ → List ℕ → Report → Report
 roomed needed log (Accepted r) = cond (ltb (length log) needed) (Short 14 needed r) (Accepted r)
 roomed needed log (Short n place r) = Short n place r

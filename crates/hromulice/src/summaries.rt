@@ -22,6 +22,12 @@ fn measured(number: u8, place: u64, reported: Reported) -> Summary
             forward: reported.extents.forward.end,
             backward: reported.extents.backward.end,
         },
+        firsts: Lengths {
+            source: reported.extents.source.first,
+            reconstructed: reported.extents.reconstructed.first,
+            forward: reported.extents.forward.first,
+            backward: reported.extents.backward.first,
+        },
     }
 }
 
@@ -31,16 +37,20 @@ pub(crate) fn summary_of(report: Report) -> Summary
     match report {
         Report::Accepted(reported) => measured(0, 0, reported),
         Report::Short(number, place, reported) => measured(number, place, reported),
-        Report::Refused(number, place) => Summary {
-            number,
-            place,
-            lengths: Lengths {
+        Report::Refused(number, place) => {
+            let zeros = Lengths {
                 source: 0,
                 reconstructed: 0,
                 forward: 0,
                 backward: 0,
-            },
-        },
+            };
+            Summary {
+                number,
+                place,
+                lengths: zeros,
+                firsts: zeros,
+            }
+        }
     }
 }
 

@@ -2,9 +2,9 @@
 ghost use mathlib.Core.Path.{_≡_};
 ghost use Rattle.interface.specs.Version.{libraryVersion, versionNumber};
 
-const MAJOR: u32 = 2;
+const MAJOR: u32 = 3;
 
-const MINOR: u32 = 1;
+const MINOR: u32 = 0;
 
 const PATCH: u32 = 0;
 

@@ -1,4 +1,4 @@
--- The line of all bytes of an input: document 01, 'Program'.
+-- The line of all bytes of an input: document 01, 'Program', and R-8 of document 02.
 -- To be believed: the line that is printed.
 use Prim.Native.Nat.{ℕ, _*_, _%_}
 use mathlib.Core.Bool.{cond}
@@ -47,7 +47,8 @@ unfoldable pub inputReport : List ℕ → Report
 inputReport bytes =
     cond (ltb (length bytes) 32) (Refused 16 (length bytes)) (answerTo (lengthsOf (take 32 bytes)) (drop 32 bytes))
 
--- "`accept` and the four lengths, or `refuse`, number and place, and for 13 the lengths too."
+-- "`accept` and the four lengths, or `refuse`, number and place, and for 13 the lengths too." Document 02 (R-8), of the first bytes:
+-- "the program prints them after the four lengths, in the same line".
 abbrev pub textOf : Report → List ℕ
 textOf (Accepted r) = ascii "accept" ++ spaced (valuesOf r)
 textOf (Short n place r) = ascii "refuse" ++ spaced (n ∷ place ∷ valuesOf r)

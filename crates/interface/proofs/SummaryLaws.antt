@@ -25,7 +25,7 @@ use Rattle.interface.specs.Summaries.{summaryOf, outcomeOf, summaryReadi
 use Rattle.interface.specs.declared.Outcome.{Outcome}
 use Rattle.interface.specs.declared.Summary.{Summary}
 
--- They are document 01's number and place, and its four lengths in the order of the buffers.
+-- They are document 01's number and place, and all that is reported with them, in its order.
 pub summary-read : (r : Report) → summaryReading (summaryOf r) ≡ readingOf r
 summary-read (Accepted e) = refl
 summary-read (Short n place e) = refl

@@ -4,7 +4,8 @@
 //   block: 2 first chroma row (2), 4 pitch (4), 8 W, 10 H, 12 X, 14 Y (2 each), 16 vector word (4), 20 and 21 f codes of x and y,
 //     22 the number of document 01's case, or 0
 // A block's line has its vector's word, `beyond` where the vector is beyond its f codes (rule 9), else `range`, and `outside`
-// where the block is not in the picture (rule 10), else its end. rust/reference writes the cases and the lines that are due.
+// where the block is not in the picture (rule 10), else `inside`, its end and its first byte. rust/reference writes the cases and the
+// lines that are due.
 use libc::STDIN_FILENO;
 use libc::STDOUT_FILENO;
 use prediction::Block;
@@ -46,6 +47,8 @@ fn print_block(block: Block) {
             io::write_all(STDOUT_FILENO, b"inside ");
             let touched = extents::join(extents::empty(), extent);
             io::print_decimal(STDOUT_FILENO, touched.end);
+            io::write_all(STDOUT_FILENO, b" ");
+            io::print_decimal(STDOUT_FILENO, touched.first);
             io::write_all(STDOUT_FILENO, b"\n");
         }
     }

@@ -78,10 +78,10 @@ storedPrevious m =
 abbrev pub storedExtents : List ℕ → Extents
 storedExtents m =
     record {
-      source = record { end = storedWord m places.sourceEnd };
-      reconstructed = record { end = storedWord m places.reconstructedEnd };
-      forward = record { end = storedWord m places.forwardEnd };
-      backward = record { end = storedWord m places.backwardEnd };
+      source = record { first = storedWord m places.sourceFirst; end = storedWord m places.sourceEnd };
+      reconstructed = record { first = storedWord m places.reconstructedFirst; end = storedWord m places.reconstructedEnd };
+      forward = record { first = storedWord m places.forwardFirst; end = storedWord m places.forwardEnd };
+      backward = record { first = storedWord m places.backwardFirst; end = storedWord m places.backwardEnd };
     }
 
 abbrev pub storedProgress : List ℕ → Progress
@@ -159,9 +159,13 @@ previousFields p =
 
 abbrev pub extentsFields : Extents → List (ℕ × ℕ)
 extentsFields e =
-    (places.sourceEnd, e .source .end)
+    (places.sourceFirst, e .source .first)
+    ∷ (places.sourceEnd, e .source .end)
+    ∷ (places.reconstructedFirst, e .reconstructed .first)
     ∷ (places.reconstructedEnd, e .reconstructed .end)
+    ∷ (places.forwardFirst, e .forward .first)
     ∷ (places.forwardEnd, e .forward .end)
+    ∷ (places.backwardFirst, e .backward .first)
     ∷ (places.backwardEnd, e .backward .end)
     ∷ []
 

@@ -90,7 +90,7 @@ seven = six + 1
 abbrev pub eight : ℕ
 eight = seven + 1
 
--- What is touched.
+-- What is touched: the ends.
 abbrev pub sourceEnd : ℕ
 sourceEnd = eight + 1
 
@@ -131,3 +131,16 @@ forwardLength = reconstructedLength + 1
 
 abbrev pub backwardLength : ℕ
 backwardLength = forwardLength + 1
+
+-- What is touched: the first bytes.
+abbrev pub sourceFirst : ℕ
+sourceFirst = backwardLength + 1
+
+abbrev pub reconstructedFirst : ℕ
+reconstructedFirst = sourceFirst + 1
+
+abbrev pub forwardFirst : ℕ
+forwardFirst = reconstructedFirst + 1
+
+abbrev pub backwardFirst : ℕ
+backwardFirst = forwardFirst + 1

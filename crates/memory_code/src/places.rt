@@ -59,7 +59,7 @@ pub(crate) const SEVEN: usize = SIX + 1;
 
 pub(crate) const EIGHT: usize = SEVEN + 1;
 
-// What is touched.
+// What is touched: the ends.
 pub(crate) const SOURCE_END: usize = EIGHT + 1;
 
 pub(crate) const RECONSTRUCTED_END: usize = SOURCE_END + 1;
@@ -87,3 +87,12 @@ pub(crate) const RECONSTRUCTED_LENGTH: usize = SOURCE_LENGTH + 1;
 pub(crate) const FORWARD_LENGTH: usize = RECONSTRUCTED_LENGTH + 1;
 
 pub(crate) const BACKWARD_LENGTH: usize = FORWARD_LENGTH + 1;
+
+// What is touched: the first bytes.
+pub(crate) const SOURCE_FIRST: usize = BACKWARD_LENGTH + 1;
+
+pub(crate) const RECONSTRUCTED_FIRST: usize = SOURCE_FIRST + 1;
+
+pub(crate) const FORWARD_FIRST: usize = RECONSTRUCTED_FIRST + 1;
+
+pub(crate) const BACKWARD_FIRST: usize = FORWARD_FIRST + 1;

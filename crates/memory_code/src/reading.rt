@@ -89,15 +89,19 @@ fn extents_in(memory: &[u64; memory::WORDS]) -> Extents
 {
     Extents {
         source: Extent {
+            first: memory[places::SOURCE_FIRST],
             end: memory[places::SOURCE_END],
         },
         reconstructed: Extent {
+            first: memory[places::RECONSTRUCTED_FIRST],
             end: memory[places::RECONSTRUCTED_END],
         },
         forward: Extent {
+            first: memory[places::FORWARD_FIRST],
             end: memory[places::FORWARD_END],
         },
         backward: Extent {
+            first: memory[places::BACKWARD_FIRST],
             end: memory[places::BACKWARD_END],
         },
     }

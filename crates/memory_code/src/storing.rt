@@ -79,9 +79,13 @@ fn put_previous(previous: Previous, memory: &mut [u64; memory::WORDS])
 fn put_extents(extents: Extents, memory: &mut [u64; memory::WORDS])
     ensures { λ _. ⌜ now (memory .exit) ≡ placed (extentsFields extents) (now (memory .entry)) ⌝ }
 {
+    memory[places::SOURCE_FIRST] = extents.source.first;
     memory[places::SOURCE_END] = extents.source.end;
+    memory[places::RECONSTRUCTED_FIRST] = extents.reconstructed.first;
     memory[places::RECONSTRUCTED_END] = extents.reconstructed.end;
+    memory[places::FORWARD_FIRST] = extents.forward.first;
     memory[places::FORWARD_END] = extents.forward.end;
+    memory[places::BACKWARD_FIRST] = extents.backward.first;
     memory[places::BACKWARD_END] = extents.backward.end;
 }
 

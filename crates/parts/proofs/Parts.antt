@@ -46,7 +46,7 @@ handed-both s a t b r h k =
     (folds-both walkIn step s a t b r (h .0) (k .0), k .1 ∙ h .1)
 
 -- Document 01's claim on lists of parts: what is answered when a batch is handed over in parts is the answer to the whole batch,
--- in number, place and lengths. For all lengths, all lists of parts (the empty list, empty parts, parts after a fault, more than
+-- in number, place and all that is reported. For all lengths, all lists of parts (the empty list, empty parts, parts after a fault, more than
 -- 4294967295 words in all), and every state so handed over.
 pub parts-whole : (l : Lengths) (parts : List (List ℕ)) (s : State) (r : Report) → HandedOver l parts s → Answered s r
     → r ≡ report l (flatten parts)
@@ -58,7 +58,7 @@ parts-whole l parts s r h answered =
     ∙ ap (λ (k : Lengths). finish k (walkIn s)) (rest .1 ∙ begun .1)
     ∙ ap (finish l) (rest .0 ∙ ap (λ (w : Walk). foldl step w (flatten parts)) (begun .0))
 
--- The same of document 01's number, place and lengths.
+-- The same of document 01's number, place and "all that is reported with them".
 pub parts-reported : (l : Lengths) (parts : List (List ℕ)) (s : State) (r : Report) → HandedOver l parts s → Answered s r
     → let whole = report l (flatten parts) in
     (reportNumber r ≡ reportNumber whole) × ((reportPlace r ≡ reportPlace whole) × (reportedOf r ≡ reportedOf whole))

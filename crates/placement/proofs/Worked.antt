@@ -7,7 +7,7 @@ use Rattle.prediction.specs.Vectors.{vectorOf, wordOf}
 use Rattle.prediction.specs.Ranges.{vectorInRange}
 use Rattle.prediction.specs.Addresses.{address}
 use Rattle.prediction.specs.Extents.{emptyExtent, joined}
-use Rattle.prediction.specs.Blocks.{blockAt}
+use Rattle.prediction.specs.Blocks.{blockAt, blockExtent}
 use Rattle.answers.specs.Answers.{Rule}
 use Rattle.answers.specs.Examples.{found, due, allBroken, allShown}
 use Rattle.macroblock.specs.Cases.{motionOf, caseOf, vectorWords}
@@ -33,10 +33,10 @@ every-example : (found table placedExamples ≡ due placedExamples)
     × (allBroken (found placedTable placedExamples) (placedTable (fresh, [])) ≡ true)
 unfolding placedExamples macroblockRules placedRules blocksOf predicted forwardOf backwardOf fresh
     commandRules fieldRules vectorRules keptBy macroblockOf caseOf motionOf vectorWords
-    vectorOf wordOf vectorInRange blockAt joined emptyExtent address
+    vectorOf wordOf vectorInRange blockAt blockExtent joined emptyExtent address
 every-example = (refl, refl, refl)
 
 every-change : map (λ (c : Change). macroblockNext (c .before) (c .words)) placedChanges ≡ map (λ (c : Change). c .after) placedChanges
 unfolding placedChanges macroblockNext progressAfter extentsAfter stageAfter positionAfter blocksOf predicted forwardOf backwardOf
-    macroblockOf caseOf motionOf vectorOf wordOf vectorInRange blockAt joined emptyExtent address
+    macroblockOf caseOf motionOf vectorOf wordOf vectorInRange blockAt blockExtent joined emptyExtent address
 every-change = refl

@@ -1,5 +1,5 @@
 -- Worked examples of MACROBLOCK commands in their pictures.
--- To be believed: numbers and places are document 01's own, lengths are reckoned by document 02's tiles (R-3).
+-- To be believed: numbers and places are document 01's own, touched bytes are reckoned by document 02's tiles (R-3).
 use Prim.Native.Nat.{ℕ}
 use mathlib.Core.Bool.{Bool, true, false}
 use mathlib.Core.List.{List, [], _∷_, _++_}
@@ -64,12 +64,19 @@ was kind five six seven eight = record { kind = kind; five = five; six = six; se
 abbrev pub wasNone : Previous
 wasNone = was 0 0 0 0 0
 
--- One more than the highest byte that is touched so far of buffers 0 to 3.
-abbrev upTo : ℕ → Extent
-upTo n = record { end = n }
+-- The first byte that is touched so far of a buffer, and one more than the last: document 02's window (R-8). Where none is, both are 0.
+abbrev pub window : ℕ → ℕ → Extent
+window first end = record { first = first; end = end }
 
-abbrev pub touched : ℕ → ℕ → ℕ → ℕ → Extents
-touched a b c d = record { source = upTo a; reconstructed = upTo b; forward = upTo c; backward = upTo d }
+abbrev pub noWindow : Extent
+noWindow = window 0 0
+
+-- What is touched so far of buffers 0 to 3.
+abbrev pub touched : Extent → Extent → Extent → Extent → Extents
+touched a b c d = record { source = a; reconstructed = b; forward = c; backward = d }
+
+abbrev pub noneTouched : Extents
+noneTouched = touched noWindow noWindow noWindow noWindow
 
 -- The next macroblock's place is this column and row; and nothing is touched yet.
 abbrev pub progressAt : Picture → Stage → ℕ → ℕ → Previous → Extents → Progress
@@ -84,14 +91,14 @@ progressAt picture stage column row previous extents =
     }
 
 abbrev pub untouchedAt : Picture → Stage → ℕ → ℕ → Progress
-untouchedAt picture stage column row = progressAt picture stage column row wasNone (touched 0 0 0 0)
+untouchedAt picture stage column row = progressAt picture stage column row wasNone noneTouched
 
 -- In an open slice, at column 3 and row 5, and behind this macroblock.
 abbrev midSlice : Picture → Progress
 midSlice picture = untouchedAt picture sliceOpen 3 5
 
 abbrev following : Picture → Previous → Progress
-following picture previous = progressAt picture sliceOpen 3 5 previous (touched 0 0 0 0)
+following picture previous = progressAt picture sliceOpen 3 5 previous noneTouched
 
 -- A command by its words 1 to 4 and its vectors, and the vectors of type 1 or 2 and of type 3.
 abbrev pub macroblockWords : ℕ → ℕ → ℕ → ℕ → List ℕ → List ℕ
@@ -298,37 +305,44 @@ pub record Change : Type 0 where
 abbrev pub change : Progress → List ℕ → Progress → Change
 change before words after = record { before = before; words = words; after = after }
 
--- The first macroblock of a group and of a slice, forward (2, 3): chroma (1, 1) ends at column 8 and row 8, Cr at byte 17 of row 168.
+-- The first byte of a block is its first luma sample: chroma has its own rows of tiles, behind those of luma.
+--
+-- The first macroblock of a group and of a slice, forward (2, 3): luma begins at column 1 and row 1, byte 16 + 1; chroma (1, 1) ends at
+-- column 8 and row 8, Cr at byte 17 of row 168.
 abbrev begun : Change
 begun =
     change (untouchedAt pictureB groupBegins 0 0) (macroblockWords 0x100 0 0 0x41000001 (alike 0x00030002))
-    (progressAt pictureB sliceOpen 1 0 (was 1 0x00030002 0x00030002 0x00030002 0x00030002) (touched 41088 41088 41602 0))
+    (progressAt pictureB sliceOpen 1 0 (was 1 0x00030002 0x00030002 0x00030002 0x00030002) (touched (window 0 41088) (window 0 41088) (window 17 41602) noWindow))
 
--- One inside a slice, forward (3, −5) and backward (−7, 11). Its own Cr ends at byte 63 of row 207, 6·8192 + 3·512 + 15·16 + 15;
--- forward, chroma (1, −2), at byte 65 of row 206, 6·8192 + 4·512 + 14·16 + 1; backward, chroma (−3, 5), at byte 61 of row 210,
--- 6·8192 + 3·512 + 18·16 + 13.
+-- One inside a slice, forward (3, −5) and backward (−7, 11). Its own luma begins at byte 48 of row 80, 2·8192 + 3·512 + 16·16, and its Cr
+-- ends at byte 63 of row 207, 6·8192 + 3·512 + 15·16 + 15; forward, chroma (1, −2), from byte 49 of row 77, 2·8192 + 3·512 + 13·16 + 1, to
+-- byte 65 of row 206, 6·8192 + 4·512 + 14·16 + 1; backward, chroma (−3, 5), from byte 44 of row 85, 2·8192 + 2·512 + 21·16 + 12, to byte 61 of
+-- row 210, 6·8192 + 3·512 + 18·16 + 13.
 abbrev betweenBoth : Change
 betweenBoth =
     change (midSlice pictureB) (inter 0x300 (paired 0xFFFB0003 0x000BFFF9))
-    (progressAt pictureB sliceOpen 4 5 (was 3 0xFFFB0003 0x000BFFF9 0xFFFB0003 0x000BFFF9) (touched 50944 50944 51426 50990))
+    (progressAt pictureB sliceOpen 4 5 (was 3 0xFFFB0003 0x000BFFF9 0xFFFB0003 0x000BFFF9) (touched (window 18176 50944) (window 18176 50944) (window 18129 51426) (window 17756 50990)))
 
 -- A skipped one touches no less.
 abbrev skipped : Change
 skipped =
-    change (midSlice pictureP) (inter 0x104 (alike 0)) (progressAt pictureP sliceOpen 4 5 (was 1 0 0 0 0) (touched 50944 50944 50944 0))
+    change (midSlice pictureP) (inter 0x104 (alike 0))
+    (progressAt pictureP sliceOpen 4 5 (was 1 0 0 0 0) (touched (window 18176 50944) (window 18176 50944) (window 18176 50944) noWindow))
 
--- Intra at the end of a row and of a slice: Cr ends at byte 95 of row 207. What was touched before stays where it is more.
+-- Intra at the end of a row and of a slice: luma begins at byte 80 of row 80, 2·8192 + 5·512 + 16·16 = 19200, and Cr ends at byte 95 of row
+-- 207, 6·8192 + 5·512 + 15·16 + 15 = 51967. What was touched before stays, its first byte where it is lower and its end where it is higher.
 abbrev rowEnds : Change
 rowEnds =
-    change (progressAt pictureP sliceOpen 5 5 (was 1 7 7 7 7) (touched 60000 51967 7 8))
+    change (progressAt pictureP sliceOpen 5 5 (was 1 7 7 7 7) (touched (window 19201 60000) (window 19199 51967) (window 6 7) (window 0 8)))
     (macroblockWords 0x3A00 0x00050005 0xFC0 0x80000001 (alike 0))
-    (progressAt pictureP sliceClosed 0 6 wasNone (touched 60000 51968 7 8))
+    (progressAt pictureP sliceClosed 0 6 wasNone (touched (window 19200 60000) (window 19199 51968) (window 6 7) (window 0 8)))
 
--- The last of the picture, of its slice and of its group, backward (−4, 0): chroma (−2, 0) ends at byte 93 of row 239, its own at byte 95.
+-- The last of the picture, of its slice and of its group, backward (−4, 0): its own luma begins at byte 80 of row 144, 4·8192 + 5·512 + 16·16,
+-- and its Cr ends at byte 95 of row 239; backward, chroma (−2, 0), from byte 78 of row 144, 4·8192 + 4·512 + 16·16 + 14, to byte 93 of row 239.
 abbrev pictureEnds : Change
 pictureEnds =
     change (untouchedAt pictureB sliceOpen 5 9) (macroblockWords 0x200 0x00090005 0 0x84000001 (alike 0x0000FFFC))
-    (progressAt pictureB groupClosed 0 10 (was 2 0x0000FFFC 0x0000FFFC 0x0000FFFC 0x0000FFFC) (touched 60160 60160 0 60158))
+    (progressAt pictureB groupClosed 0 10 (was 2 0x0000FFFC 0x0000FFFC 0x0000FFFC 0x0000FFFC) (touched (window 35584 60160) (window 35584 60160) noWindow (window 35086 60158)))
 
 unfoldable pub placedChanges : List Change
 placedChanges = begun ∷ betweenBoth ∷ skipped ∷ rowEnds ∷ pictureEnds ∷ []

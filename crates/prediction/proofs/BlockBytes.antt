@@ -1,24 +1,24 @@
 -- The extent of a block that lies inside is exact for the bytes that the block occupies: from the two address laws alone.
-use mathlib.Core.Path.{_≡_, refl}
+use mathlib.Core.Path.{_≡_, refl, ap, ap₂, _∙_}
 use mathlib.Core.Bool.{true}
 use mathlib.Core.Logic.{_⊎_, inl, inr}
-use Prim.Native.Nat.{ℕ, _+_, _*_, _≤_, _<_}
+use Prim.Native.Nat.{ℕ, _+_, _*_, _≤_, _<_, min, max}
 use native.Mathlib.Nat.{le-trans}
 use native.Mathlib.Omega.{arith}
 use lib.IntN.{ℤ}
 use Rattle.prediction.specs.Spans.{inside}
 use Rattle.prediction.specs.Addresses.{Plane, luma, cb, cr, address, sampleByte}
-use Rattle.prediction.specs.Extents.{Exact}
-use Rattle.prediction.specs.Blocks.{sizeIn, componentIn, OccupiesIn, Occupies, blockInside, lastOf, planeExtent, blockExtent}
+use Rattle.prediction.specs.Extents.{joined, Exact}
+use Rattle.prediction.specs.Blocks.{sizeIn, componentIn, OccupiesIn, Occupies, blockInside, startOf, lastOf, planeExtent, blockExtent}
 use Rattle.prediction.specs.declared.Vector.{Vector}
 use Rattle.prediction.specs.declared.Surface.{Surface}
 use Rattle.prediction.specs.declared.Grid.{Grid}
 use Rattle.prediction.specs.declared.Position.{Position}
 use Rattle.prediction.proofs.Integers.{both}
-use Rattle.prediction.proofs.SpanLaws.{last-covered, up-to-last}
+use Rattle.prediction.proofs.SpanLaws.{first-covered, from-first, last-covered, up-to-last}
 use Rattle.prediction.proofs.ChromaInside.{chroma-inside}
 use Rattle.prediction.proofs.AddressGrows.{address-column, address-row}
-use Rattle.prediction.proofs.ExtentLaws.{join-exact, exact-same}
+use Rattle.prediction.proofs.ExtentLaws.{between, join-both, join-exact, exact-same}
 
 -- ---- bytes grow with the samples, in each plane
 grows : {pitch a b c d : ℕ} → 16 ≤ pitch → a ≤ b → c ≤ d → address pitch a c ≤ address pitch b d
@@ -29,9 +29,28 @@ sample-grows s luma wide h k = grows wide h k
 sample-grows s cb wide h k = grows wide (omega arith) (omega arith)
 sample-grows s cr wide h k = grows wide (omega arith) (omega arith)
 
--- Cr stands behind Cb
+-- Cr stands behind Cb, so that chroma begins with Cb and ends with Cr. This is all that the code and the tests by lines use of a
+-- block's extent, and it holds at every pitch.
 cb-cr : (s : Surface) (x y : ℕ) → sampleByte s cb x y ≤ sampleByte s cr x y
 cb-cr s x y = address-column (s .pitch) (s .«chroma_row» + y) (2 * x) (2 * x + 1) (omega arith)
+
+pub block-is : (s : Surface) (at : Position) (v : Vector)
+    → blockExtent s at v
+    ≡ between (min (planeExtent s at v luma .first) (planeExtent s at v cb .first)) (max (planeExtent s at v luma .end) (planeExtent s at v cr .end))
+unfolding blockExtent
+block-is s at v =
+    let cx = componentIn cb (v .x) in
+    let cy = componentIn cb (v .y) in
+    let begins = cb-cr s (startOf 8 (at .column) cx) (startOf 8 (at .row) cy) in
+    let ends = cb-cr s (lastOf 8 (at .column) cx) (lastOf 8 (at .row) cy) in
+    let l = planeExtent s at v luma in
+    let b = planeExtent s at v cb in
+    let r = planeExtent s at v cr in
+    let first : min (l .first) (min (b .first) (r .first)) ≡ min (l .first) (b .first) = omega (arith, begins) in
+    let end : max (l .end) (max (b .end) (r .end)) ≡ max (l .end) (r .end) = omega (arith, ends) in
+    ap (joined l) (join-both b r (omega arith) (omega arith))
+    ∙ join-both l (between (min (b .first) (r .first)) (max (b .end) (r .end))) (omega arith) (omega arith)
+    ∙ ap₂ between first end
 
 -- ---- where the luma block lies inside, each plane's block does
 each-plane : (place n : ℕ) (v : ℤ) → inside 16 place n v ≡ true → (p : Plane) → inside (sizeIn p) place n (componentIn p v) ≡ true
@@ -61,6 +80,12 @@ module _ (s : Surface) (g : Grid) (at : Position) (v : Vector) (wide : 16 ≤ s 
       let y = up-to-last (sizeIn p) (at .row) (g .rows) (componentIn p (v .y)) (rows p) (o .y) (o .in-rows) in
       omega (arith, sample-grows s p wide x y, o .stands)
 
+  plane-from : (p : Plane) (byte : ℕ) → OccupiesIn p s at v byte → planeExtent s at v p .first ≤ byte
+  plane-from p byte o =
+      let x = from-first (sizeIn p) (at .column) (g .columns) (componentIn p (v .x)) (columns p) (o .x) (o .in-columns) in
+      let y = from-first (sizeIn p) (at .row) (g .rows) (componentIn p (v .y)) (rows p) (o .y) (o .in-rows) in
+      omega (arith, sample-grows s p wide x y, o .stands)
+
   last-sample : (p : Plane)
       → OccupiesIn p s at v
       (sampleByte s p (lastOf (sizeIn p) (at .column) (componentIn p (v .x))) (lastOf (sizeIn p) (at .row) (componentIn p (v .y))))
@@ -73,21 +98,29 @@ module _ (s : Surface) (g : Grid) (at : Position) (v : Vector) (wide : 16 ≤ s 
         stands = refl;
       }
 
-  luma-exact : Exact (OccupiesIn luma s at v) (planeExtent s at v luma)
-  luma-exact = record { below = plane-below luma; reached = λ h. (_, last-sample luma, refl) }
+  first-sample : (p : Plane) → OccupiesIn p s at v (planeExtent s at v p .first)
+  first-sample p =
+      record {
+        x = startOf (sizeIn p) (at .column) (componentIn p (v .x));
+        y = startOf (sizeIn p) (at .row) (componentIn p (v .y));
+        in-columns = first-covered (sizeIn p) (at .column) (g .columns) (componentIn p (v .x)) (size-pos p) (columns p);
+        in-rows = first-covered (sizeIn p) (at .row) (g .rows) (componentIn p (v .y)) (size-pos p) (rows p);
+        stands = refl;
+      }
 
-  -- a Cb sample has its Cr sample behind it
-  chroma-exact : Exact (λ (byte : ℕ). OccupiesIn cb s at v byte ⊎ OccupiesIn cr s at v byte) (planeExtent s at v cr)
-  chroma-exact = record { below = under; reached = λ h. (_, inr (last-sample cr), refl) }
-    where
-      under : (byte : ℕ) → OccupiesIn cb s at v byte ⊎ OccupiesIn cr s at v byte → byte < planeExtent s at v cr .end
-      under byte (inl o) =
-          let behind = plane-below cr (sampleByte s cr (o .x) (o .y)) (record { x = o .x; y = o .y; in-columns = o .in-columns; in-rows = o .in-rows; stands = refl }) in
-          omega (arith, cb-cr s (o .x) (o .y), o .stands)
-      under byte (inr o) = plane-below cr byte o
+  plane-exact : (p : Plane) → Exact (OccupiesIn p s at v) (planeExtent s at v p)
+  plane-exact p =
+      record {
+        below = plane-below p;
+        reached = λ h. (_, last-sample p, refl);
+        from = plane-from p;
+        begun = λ h. first-sample p;
+        untouched = λ e. absurd (omega arith);
+      }
 
   pub extent-exact : Exact (Occupies s at v) (blockExtent s at v)
-  extent-exact = exact-same joins parts (join-exact luma-exact chroma-exact)
+  unfolding blockExtent
+  extent-exact = exact-same joins parts (join-exact (plane-exact luma) (join-exact (plane-exact cb) (plane-exact cr)))
     where
       joins : (byte : ℕ) → OccupiesIn luma s at v byte ⊎ (OccupiesIn cb s at v byte ⊎ OccupiesIn cr s at v byte) → Occupies s at v byte
       joins byte (inl o) = (luma, o)

@@ -1,12 +1,12 @@
 -- What holds of a block's answer.
-use mathlib.Core.Path.{_≡_, refl, ap, ap₂, subst, _∙_}
+use mathlib.Core.Path.{_≡_, refl, sym, ap, ap₂, subst, _∙_}
 use mathlib.Core.Bool.{Bool, true, false, cond, _&&_}
 use Prim.Native.Nat.{ℕ, _≤_, _<_}
 use native.Mathlib.Omega.{arith}
 use lib.IntN.{pos}
 use Rattle.prediction.specs.Vectors.{still}
 use Rattle.prediction.specs.Spans.{inside}
-use Rattle.prediction.specs.Extents.{joined, Exact}
+use Rattle.prediction.specs.Extents.{Exact}
 use Rattle.prediction.specs.Blocks.{Occupies, InPicture, blockInside, blockExtent, blockAt}
 use Rattle.prediction.specs.declared.Vector.{Vector}
 use Rattle.prediction.specs.declared.Surface.{Surface}
@@ -17,14 +17,14 @@ use Rattle.prediction.specs.declared.Block.the-variants.{Outside, Inside
 use Rattle.prediction.proofs.Integers.{pos-sub}
 use Rattle.prediction.proofs.Components.{inside-holds}
 use Rattle.prediction.proofs.SpanLaws.{inside-within, within-inside}
-use Rattle.prediction.proofs.BlockBytes.{tests, extent-exact}
+use Rattle.prediction.proofs.BlockBytes.{tests, block-is, extent-exact}
 
 -- an answer that is inside: the test holds, and the extent is the block's
 pub answer : (t : Bool) (full e : Extent) → cond t (Inside full) Outside ≡ Inside e → (t ≡ true) × (full ≡ e)
 answer true full e h = (refl, cc)
 answer false full e h = let z : _≡_ {A = ℕ} 0 1 = cc in absurd (omega arith)
 
--- Inside, every occupied byte is below the end, and the byte just below the end is occupied.
+-- Inside, every occupied byte lies from the first byte to below the end, and the first byte and the one just below the end are occupied.
 pub block-exact : (s : Surface) (g : Grid) (at : Position) (v : Vector) (e : Extent) → 16 ≤ s .pitch → blockAt s g at v ≡ Inside e → Exact (Occupies s at v) e
 unfolding blockAt
 block-exact s g at v e wide h =
@@ -33,8 +33,10 @@ block-exact s g at v e wide h =
 
 -- A block that lies inside touches some byte.
 pub block-touches : (s : Surface) (g : Grid) (at : Position) (v : Vector) (e : Extent) → blockAt s g at v ≡ Inside e → 0 < e .end
-unfolding blockAt joined
-block-touches s g at v e h = let a = answer (blockInside g at v) (blockExtent s at v) e h in omega (arith, ap (λ (x : Extent). x .end) (a .1))
+unfolding blockAt
+block-touches s g at v e h =
+    let a = answer (blockInside g at v) (blockExtent s at v) e h in
+    omega (arith, ap (λ (x : Extent). x .end) (sym (block-is s at v) ∙ a .1))
 
 -- It is inside exactly when every luma sample lies in columns 0 to 16W−1 and rows 0 to 16H−1.
 pub inside-exactly : (s : Surface) (g : Grid) (at : Position) (v : Vector) → (((e : Extent) × (blockAt s g at v ≡ Inside e)) → InPicture g at v) × (InPicture g at v → (e : Extent) × (blockAt s g at v ≡ Inside e))

@@ -9,7 +9,7 @@ use lib.Dec.{leb}
 use lib.IntN.{ℤ, pos, negsuc, natAbs, subℕ, _+ℤ_}
 use lib.Signed.{mag, shrZ, leZ, _≤ℤ_, _<ℤ_}
 use Rattle.prediction.specs.Spans.{firstOf, countOf, endOf, inside, halved, Covers}
-use Rattle.prediction.specs.Blocks.{lastOf}
+use Rattle.prediction.specs.Blocks.{startOf, lastOf}
 use Rattle.prediction.proofs.Integers.{split, sub-pos, sub-neg, pos-sub, add-sub, sub-add, neg-sub, le-sums, le-means, le-holds, lt-means, lt-holds, both}
 
 module _ (b k : ℕ) where
@@ -96,12 +96,18 @@ module _ (size place b k : ℕ) where
         to = subst (λ (z : ℤ). subℕ c j <ℤ z) (sym end-is) (lt-holds c j (size * place + b / 2 + (size + b % 2)) k l);
       }
 
--- the last sample of a block that starts at 0 or above
+-- the first and the last sample of a block that starts at 0 or above
+pub start-is : (size place b k : ℕ) → k ≤ size * place + b / 2 → startOf size place (subℕ b (2 * k)) ≡ size * place + b / 2 - k
+start-is size place b k h = ap natAbs (first-is size place b k ∙ sub-pos (size * place + b / 2) k h)
+
 pub last-is : (size place b k : ℕ) → k ≤ size * place + b / 2 → lastOf size place (subℕ b (2 * k)) ≡ size * place + b / 2 + (size + b % 2) - k - 1
 last-is size place b k h =
     ap (λ (z : ℤ). natAbs z - 1) (end-is size place b k ∙ sub-pos (size * place + b / 2 + (size + b % 2)) k (omega arith))
 
 -- as the code counts
+pub start-at : (size place b r : ℕ) → 16384 ≤ size * place + b / 2 → r + 16384 ≡ size * place + b / 2 → r ≡ startOf size place (subℕ b 32768)
+start-at size place b r h e = omega (arith, start-is size place b 16384 h)
+
 pub last-at : (size place b r : ℕ) → 16384 ≤ size * place + b / 2 → r ≡ size * place + b / 2 + (size + b % 2) - 16385 → r ≡ lastOf size place (subℕ b 32768)
 last-at size place b r h e = omega (arith, last-is size place b 16384 h)
 

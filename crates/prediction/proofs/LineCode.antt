@@ -2,7 +2,7 @@
 use mathlib.Core.Path.{_≡_, refl, sym, ap, ap₂, _∙_}
 use mathlib.Core.Bool.{Bool, true, false, cond, _&&_}
 use mathlib.Core.Logic.{_⊎_, inl, inr}
-use Prim.Native.Nat.{ℕ, _+_, _*_, _-_, _/_, _%_, _^_, _≤_, _<_}
+use Prim.Native.Nat.{ℕ, _+_, _*_, _-_, _/_, _%_, _^_, _≤_, _<_, min, max}
 use native.Mathlib.Omega.{arith}
 use borrow.Author.Tests.{leb-true, le-leb, lt-leb}
 use lib.Dec.{leb}
@@ -13,16 +13,18 @@ use Rattle.lists.proofs.Booleans.{same}
 use Rattle.prediction.specs.Vectors.{vectorOf}
 use Rattle.prediction.specs.Spans.{firstOf, halved}
 use Rattle.prediction.specs.Extents.{emptyExtent}
-use Rattle.prediction.specs.Addresses.{cr}
-use Rattle.prediction.specs.Blocks.{planeExtent, lastOf}
+use Rattle.prediction.specs.Addresses.{address}
+use Rattle.prediction.specs.Blocks.{blockExtent, startOf, lastOf}
 use Rattle.prediction.specs.Lines.{limitOf, lineOf, inLine, reachOf}
 use Rattle.prediction.specs.declared.Vector.{Vector}
 use Rattle.prediction.specs.declared.Surface.{Surface}
 use Rattle.prediction.specs.declared.Position.{Position}
 use Rattle.prediction.specs.declared.Line.{Line}
+use Rattle.prediction.specs.declared.Extent.{Extent}
 use Rattle.prediction.proofs.Integers.{split, pos-sub, add-sub, le-sums, both}
-use Rattle.prediction.proofs.Components.{half-below, half-above, first-is, last-at}
+use Rattle.prediction.proofs.Components.{half-below, half-above, first-is, start-at, last-at}
 use Rattle.prediction.proofs.TwosComplement.{pair}
+use Rattle.prediction.proofs.BlockBytes.{block-is}
 
 -- ---- the test of a line, in ℕ: the component is b - 32768
 pub record Fits (l : Line) (place b : ℕ) : Type 0 where
@@ -57,13 +59,13 @@ module _ (l : Line) (place b : ℕ) where
       ∙ ap₂ _&&_ (ap₂ _&&_ (le-leb (l .low + 32768) (b + 32768) (omega arith)) (le-leb (b + 32768) (l .low + l .span + 32768) (omega arith)))
       (ap₂ _&&_ (le-leb (0 + 32768) (32 * place + b + 0) (omega arith)) (le-leb (32 * place + b + 0) (32 * l .last + 32768) (omega arith)))
 
+unequal : _≡_ {A = Bool} true false → ⊥
+unequal t = let z : _≡_ {A = ℕ} 0 1 = cc in omega arith
+
 -- ---- as the code tests: r is b less low, and u the block's start, both around 2^32
 module _ (l : Line) (place b : ℕ) (hb : b < 65536) where
   pub far : (r : ℕ) → l .low < 65536 → l .span < 65536 → r < 2 ^ 32 → (r + l .low) % 2 ^ 32 ≡ b → l .span < r → false ≡ inLine l place (subℕ b 32768)
-  far r hl hs hr e h = same false (inLine l place (subℕ b 32768)) (λ t. absurd (unequal t)) (λ t. absurd (let f = line-means l place b t in omega arith))
-    where
-      unequal : false ≡ true → ⊥
-      unequal t = let z : _≡_ {A = ℕ} 0 1 = cc in omega arith
+  far r hl hs hr e h = same false (inLine l place (subℕ b 32768)) (λ t. absurd (unequal (sym t))) (λ t. absurd (let f = line-means l place b t in omega arith))
 
   pub near : (r u : ℕ)
       → l .low < 65536
@@ -81,7 +83,17 @@ module _ (l : Line) (place b : ℕ) (hb : b < 65536) where
       (λ t. line-holds l place b (let k = leb-true u (32 * l .last) t in record { from = omega arith; to = omega arith; first = omega arith; last = omega arith }))
       (λ t. let f = line-means l place b t in le-leb u (32 * l .last) (omega arith))
 
--- ---- as the code counts a block that starts u half samples from the edge: its last luma and chroma samples
+-- ---- as the code counts a block that starts u half samples from the edge: its first and last luma and chroma samples
+pub luma-from : (place b u r : ℕ) → u + 32768 ≡ 32 * place + b → r ≡ u / 2 → r ≡ startOf 16 place (subℕ b 32768)
+luma-from place b u r s e = start-at 16 place b r (omega arith) (omega arith)
+
+pub chroma-from : (place b u r : ℕ) → b < 65536 → u + 32768 ≡ 32 * place + b → r ≡ (u + (1 - b / 32768)) / 4 → r ≡ startOf 8 place (halved (subℕ b 32768))
+chroma-from place b u r hb s e = by (split b 32768)
+  where
+    by : (b < 32768) ⊎ (32768 ≤ b) → r ≡ startOf 8 place (halved (subℕ b 32768))
+    by (inl h) = start-at 8 place ((b + 1) / 2 + 16384) r (omega arith) (omega arith) ∙ ap (startOf 8 place) (sym (half-below b 16384 h))
+    by (inr h) = start-at 8 place (b / 2 + 16384) r (omega arith) (omega arith) ∙ ap (startOf 8 place) (sym (half-above b 16384 h))
+
 pub luma-at : (place b u r : ℕ) → u + 32768 ≡ 32 * place + b → r ≡ (u + 1) / 2 + 15 → r ≡ lastOf 16 place (subℕ b 32768)
 luma-at place b u r s e = last-at 16 place b r (omega arith) (omega arith)
 
@@ -91,6 +103,33 @@ chroma-at place b u r hb s e = by (split b 32768)
     by : (b < 32768) ⊎ (32768 ≤ b) → r ≡ lastOf 8 place (halved (subℕ b 32768))
     by (inl h) = last-at 8 place ((b + 1) / 2 + 16384) r (omega arith) (omega arith) ∙ ap (lastOf 8 place) (sym (half-below b 16384 h))
     by (inr h) = last-at 8 place (b / 2 + 16384) r (omega arith) (omega arith) ∙ ap (lastOf 8 place) (sym (half-above b 16384 h))
+
+-- ---- both ends of a block that starts u and v half samples from the edges: a and b are its luma column and row, c and d the chroma ones
+module _ (s : Surface) (at : Position) (x y u v a b c d : ℕ) (hx : x < 65536) (hy : y < 65536) (eu : u + 32768 ≡ 32 * at .column + x) (ev : v + 32768 ≡ 32 * at .row + y) where
+  pub first-at : a ≡ u / 2 → b ≡ v / 2 → c ≡ (u + (1 - x / 32768)) / 4 → d ≡ (v + (1 - y / 32768)) / 4
+      → blockExtent s at (pair (subℕ x 32768) (subℕ y 32768)) .first
+      ≡ min (address (s .pitch) a b) (address (s .pitch) (2 * c) (s .«chroma_row» + d))
+  first-at ea eb ec ed =
+      ap (λ (e : Extent). e .first) (block-is s at (pair (subℕ x 32768) (subℕ y 32768)))
+      ∙ sym
+      (ap₂ min (ap₂ (address (s .pitch)) (luma-from (at .column) x u a eu ea) (luma-from (at .row) y v b ev eb))
+      (ap₂ (λ (m n : ℕ). address (s .pitch) (2 * m) (s .«chroma_row» + n)) (chroma-from (at .column) x u c hx eu ec) (chroma-from (at .row) y v d hy ev ed)))
+
+  pub end-at : a ≡ (u + 1) / 2 + 15 → b ≡ (v + 1) / 2 + 15 → c ≡ (u + (1 - x / 32768) + 2) / 4 + 7 → d ≡ (v + (1 - y / 32768) + 2) / 4 + 7
+      → blockExtent s at (pair (subℕ x 32768) (subℕ y 32768)) .end
+      ≡ max (address (s .pitch) a b + 1) (address (s .pitch) (2 * c + 1) (s .«chroma_row» + d) + 1)
+  end-at ea eb ec ed =
+      ap (λ (e : Extent). e .end) (block-is s at (pair (subℕ x 32768) (subℕ y 32768)))
+      ∙ sym
+      (ap₂ (λ (m n : ℕ). max (m + 1) (n + 1)) (ap₂ (address (s .pitch)) (luma-at (at .column) x u a eu ea) (luma-at (at .row) y v b ev eb))
+      (ap₂ (λ (m n : ℕ). address (s .pitch) (2 * m + 1) (s .«chroma_row» + n)) (chroma-at (at .column) x u c hx eu ec) (chroma-at (at .row) y v d hy ev ed)))
+
+-- a block starts in the picture where its half samples from the edge do not wrap
+pub start-test : (place b u : ℕ) → place < 65536 → b < 65536 → u < 2 ^ 32 → (u + 32768) % 2 ^ 32 ≡ 32 * place + b → leb u 16777216 ≡ leb 32768 (32 * place + b)
+start-test place b u hp hb hu s =
+    same (leb u 16777216) (leb 32768 (32 * place + b))
+    (λ t. let k = leb-true u 16777216 t in le-leb 32768 (32 * place + b) (omega arith))
+    (λ t. let k = leb-true 32768 (32 * place + b) t in le-leb u 16777216 (omega arith))
 
 -- ---- the reach of a word whose components are x - 32768 and y - 32768
 starts : (place b u : ℕ) → u + 32768 ≡ 32 * place + b → leZ (pos 0) (firstOf 16 place (subℕ b 32768)) ≡ true
@@ -105,21 +144,38 @@ module _ (s : Surface) (at : Position) (w x y : ℕ) (ex : subℕ x 32768 ≡ ve
   reach-by : (t u : Bool)
       → leZ (pos 0) (firstOf 16 (at .column) (subℕ x 32768)) ≡ t
       → leZ (pos 0) (firstOf 16 (at .row) (subℕ y 32768)) ≡ u
-      → reachOf s at w ≡ cond (t && u) (planeExtent s at (pair (subℕ x 32768) (subℕ y 32768)) cr) emptyExtent
+      → reachOf s at w ≡ cond (t && u) (blockExtent s at (pair (subℕ x 32768) (subℕ y 32768))) emptyExtent
   unfolding reachOf
   reach-by t u et eu =
       sym
-      (ap (λ (v : Vector). cond (leZ (pos 0) (firstOf 16 (at .column) (v .x)) && leZ (pos 0) (firstOf 16 (at .row) (v .y))) (planeExtent s at v cr) emptyExtent) (ap₂ pair ex ey))
-      ∙ ap₂ (λ (p q : Bool). cond (p && q) (planeExtent s at (pair (subℕ x 32768) (subℕ y 32768)) cr) emptyExtent) et eu
+      (ap (λ (v : Vector). cond (leZ (pos 0) (firstOf 16 (at .column) (v .x)) && leZ (pos 0) (firstOf 16 (at .row) (v .y))) (blockExtent s at v) emptyExtent) (ap₂ pair ex ey))
+      ∙ ap₂ (λ (p q : Bool). cond (p && q) (blockExtent s at (pair (subℕ x 32768) (subℕ y 32768))) emptyExtent) et eu
 
-  pub reach-left : 32 * at .column + x < 32768 → reachOf s at w ≡ emptyExtent
+  reach-left : 32 * at .column + x < 32768 → reachOf s at w ≡ emptyExtent
   reach-left h = reach-by false _ (starts-before (at .column) x h) refl
 
-  pub reach-above : (u : ℕ) → u + 32768 ≡ 32 * at .column + x → 32 * at .row + y < 32768 → reachOf s at w ≡ emptyExtent
+  reach-above : (u : ℕ) → u + 32768 ≡ 32 * at .column + x → 32 * at .row + y < 32768 → reachOf s at w ≡ emptyExtent
   reach-above u e h = reach-by true false (starts (at .column) x u e) (starts-before (at .row) y h)
 
-  pub reach-inside : (u v : ℕ) → u + 32768 ≡ 32 * at .column + x → v + 32768 ≡ 32 * at .row + y → reachOf s at w ≡ planeExtent s at (pair (subℕ x 32768) (subℕ y 32768)) cr
+  pub reach-inside : (u v : ℕ) → u + 32768 ≡ 32 * at .column + x → v + 32768 ≡ 32 * at .row + y → reachOf s at w ≡ blockExtent s at (pair (subℕ x 32768) (subℕ y 32768))
   reach-inside u v e f = reach-by true true (starts (at .column) x u e) (starts (at .row) y v f)
+
+  -- by the test of the code
+  pub reach-before : (leb 32768 (32 * at .column + x) && leb 32768 (32 * at .row + y)) ≡ false → reachOf s at w ≡ emptyExtent
+  reach-before e = by (split (32 * at .column + x) 32768) (split (32 * at .row + y) 32768)
+    where
+      by : (32 * at .column + x < 32768) ⊎ (32768 ≤ 32 * at .column + x) → (32 * at .row + y < 32768) ⊎ (32768 ≤ 32 * at .row + y) → reachOf s at w ≡ emptyExtent
+      by (inl h) k = reach-left h
+      by (inr h) (inl k) = reach-above (32 * at .column + x - 32768) (omega arith) k
+      by (inr h) (inr k) = let z : _≡_ {A = Bool} true false = sym (ap₂ _&&_ (le-leb 32768 (32 * at .column + x) h) (le-leb 32768 (32 * at .row + y) k)) ∙ e in absurd (unequal z)
+
+  pub reach-starts : (leb 32768 (32 * at .column + x) && leb 32768 (32 * at .row + y)) ≡ true
+      → (32768 ≤ 32 * at .column + x) × (32768 ≤ 32 * at .row + y) × (reachOf s at w ≡ blockExtent s at (pair (subℕ x 32768) (subℕ y 32768)))
+  reach-starts t =
+      let two = both (leb 32768 (32 * at .column + x)) (leb 32768 (32 * at .row + y)) t in
+      let h = leb-true 32768 (32 * at .column + x) (two .0) in
+      let k = leb-true 32768 (32 * at .row + y) (two .1) in
+      (h, k, reach-inside (32 * at .column + x - 32768) (32 * at .row + y - 32768) (omega arith) (omega arith))
 
 -- ---- a line as the code makes it: p is one less than the code
 pub one-up : (p : ℕ) → 1 ≤ 2 ^ p

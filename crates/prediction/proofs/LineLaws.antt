@@ -1,34 +1,38 @@
--- The test by lines is the range test and the inside test, and where chroma is highest the reach of a block that lies inside is its extent.
+-- The test by lines is the range test and the inside test, the reach of a block that lies inside is its extent, and it begins at or
+-- behind the floor of its row.
 use mathlib.Core.Path.{_≡_, refl, sym, ap, ap₂, subst, _∙_}
-use mathlib.Core.Bool.{Bool, true, false, cond, _&&_, _||_}
+use mathlib.Core.Bool.{Bool, true, false, cond, _&&_}
 use mathlib.Core.Logic.{_⊎_, inl, inr}
-use Prim.Native.Nat.{ℕ, _+_, _*_, _-_, _/_, _^_, _≤_, _<_}
+use Prim.Native.Nat.{ℕ, _+_, _*_, _-_, _/_, _^_, _≤_, _<_, min, max}
+use native.Mathlib.Nat.{le-trans}
 use native.Mathlib.Omega.{arith}
-use borrow.Author.Tests.{leb-true, le-leb, ltb-true, lt-ltb}
+use borrow.Author.Tests.{leb-true, le-leb, lt-leb, ltb-true, lt-ltb}
 use lib.Dec.{leb, ltb}
 use lib.IntN.{ℤ, pos, subℕ}
 use lib.Signed.{mag, leZ}
 use Rattle.lists.proofs.Booleans.{same}
 use Rattle.prediction.specs.Vectors.{vectorOf, still}
 use Rattle.prediction.specs.Ranges.{inRange, vectorInRange}
-use Rattle.prediction.specs.Spans.{firstOf, inside, halved}
-use Rattle.prediction.specs.Addresses.{luma, cr}
+use Rattle.prediction.specs.Spans.{firstOf, inside}
+use Rattle.prediction.specs.Addresses.{luma, cb, cr}
 use Rattle.prediction.specs.Extents.{emptyExtent, joined}
-use Rattle.prediction.specs.Blocks.{blockInside, planeExtent, blockExtent, blockAt, lastOf}
-use Rattle.prediction.specs.Lines.{lineOf, inLine, vectorInLines, reachOf, chromaFrom, chromaHighest}
+use Rattle.prediction.specs.Blocks.{blockInside, blockExtent, blockAt, startOf, lastOf}
+use Rattle.prediction.specs.Lines.{lineOf, inLine, vectorInLines, reachOf, floorOf}
 use Rattle.prediction.specs.declared.Surface.{Surface}
 use Rattle.prediction.specs.declared.Grid.{Grid}
 use Rattle.prediction.specs.declared.Position.{Position}
+use Rattle.prediction.specs.declared.Extent.{Extent}
+use Rattle.prediction.specs.declared.Line.{Line}
 use Rattle.prediction.specs.declared.Block.the-variants.{Outside, Inside}
-use Rattle.prediction.proofs.Integers.{both, either}
+use Rattle.prediction.proofs.Integers.{split, both, product-le}
 use Rattle.prediction.proofs.Components.{biasOf, bias-lt, bias-back, inside-means, inside-holds}
 use Rattle.prediction.proofs.CodeRange.{code-test}
-use Rattle.prediction.proofs.TwosComplement.{vector-fits}
-use Rattle.prediction.proofs.BlockBytes.{tests}
-use Rattle.prediction.proofs.AddressGrows.{address-column, address-tiles}
+use Rattle.prediction.proofs.TwosComplement.{pair, vector-fits}
+use Rattle.prediction.proofs.BlockBytes.{tests, sample-grows, block-is}
+use Rattle.prediction.proofs.AddressGrows.{address-parts, address-column, address-row}
 use Rattle.prediction.proofs.BlockLaws.{answer, own-inside}
-use Rattle.prediction.proofs.ExtentLaws.{join-larger}
-use Rattle.prediction.proofs.LineCode.{line-means, line-holds, one-up, luma-at, chroma-at}
+use Rattle.prediction.proofs.ExtentLaws.{between, join-both}
+use Rattle.prediction.proofs.LineCode.{line-means, line-holds, one-up, first-at, reach-inside, reach-before, reach-starts}
 
 -- ---- a line's test is the range of its code and the inside test
 swapped : (a b c d : Bool) → ((a && b) && (c && d)) ≡ ((a && c) && (b && d))
@@ -79,106 +83,147 @@ lines-exact g at cx cy w hx hy =
     ap₂ _&&_ (component-exact (g .columns) cx (at .column) (v .x) hx (f .0 .sfits)) (component-exact (g .rows) cy (at .row) (v .y) hy (f .1 .sfits))
     ∙ swapped (inRange 16 cx (v .x)) (inside 16 (at .column) (g .columns) (v .x)) (inRange 16 cy (v .y)) (inside 16 (at .row) (g .rows) (v .y))
 
--- ---- where chroma is highest
--- A block's last luma sample in one direction: it lies in the picture, and at most two beyond twice the last chroma sample.
-record LastSamples (place n : ℕ) (v : ℤ) : Type 0 where
-  in-picture : lastOf 16 place v < 16 * n
-  by-chroma : lastOf 16 place v ≤ 2 * lastOf 8 place (halved v) + 2
-
-last-samples : (place n : ℕ) (v : ℤ) → mag v < 32768 → inside 16 place n v ≡ true → LastSamples place n v
-last-samples place n v hv t =
-    let b = biasOf v in
-    let back = bias-back v hv in
-    let means = inside-means 16 place b 16384 n (ap (inside 16 place n) back ∙ t) in
-    let u : 32 * place + b - 32768 + 32768 ≡ 32 * place + b = omega (arith, means .0) in
-    let luma = luma-at place b (32 * place + b - 32768) _ u refl in
-    let chroma = chroma-at place b (32 * place + b - 32768) _ (bias-lt v hv) u refl in
-    subst (LastSamples place n) back
-    (record { in-picture = omega (arith, luma, means .1, u); by-chroma = omega (arith, luma, chroma, u) })
-
--- A block's last luma row is in an earlier row of tiles than its last chroma row, in either case of the definition.
-module _ (s : Surface) (rows luma chroma : ℕ) (inside : luma < 16 * rows) (half : luma ≤ 2 * chroma + 2) where
-  earlier-row : (leb (16 * rows) (s .«chroma_row» / 32 * 32) || (leb chromaFrom (s .«chroma_row») && leb (16 * rows) (s .«chroma_row»))) ≡ true
-      → luma < (s .«chroma_row» + chroma) / 32 * 32
-  earlier-row t = by (either (leb (16 * rows) (s .«chroma_row» / 32 * 32)) (leb chromaFrom (s .«chroma_row») && leb (16 * rows) (s .«chroma_row»)) t)
-    where
-      by : (leb (16 * rows) (s .«chroma_row» / 32 * 32) ≡ true) ⊎ ((leb chromaFrom (s .«chroma_row») && leb (16 * rows) (s .«chroma_row»)) ≡ true)
-          → luma < (s .«chroma_row» + chroma) / 32 * 32
-      by (inl a) = omega (arith, leb-true (16 * rows) (s .«chroma_row» / 32 * 32) a)
-      by (inr f) =
-          let far = both (leb chromaFrom (s .«chroma_row»)) (leb (16 * rows) (s .«chroma_row»)) f in
-          omega (arith, leb-true chromaFrom (s .«chroma_row») (far .0), leb-true (16 * rows) (s .«chroma_row») (far .1))
-
--- There the last Cr byte is the highest byte of every block that lies inside.
-pub chroma-is-highest : (s : Surface) (g : Grid) (at : Position) (w : ℕ)
-    → chromaHighest s (g .rows) ≡ true
-    → blockInside g at (vectorOf w) ≡ true
-    → blockExtent s at (vectorOf w) ≡ planeExtent s at (vectorOf w) cr
-unfolding chromaHighest
-chroma-is-highest s g at w h t =
-    let v = vectorOf w in
-    let f = vector-fits w in
-    let two = tests g at v t in
-    let x = last-samples (at .column) (g .columns) (v .x) (f .0 .sfits) (two .0) in
-    let y = last-samples (at .row) (g .rows) (v .y) (f .1 .sfits) (two .1) in
-    let lower = both _ (leb 32 (s .pitch)) h in
-    let row = earlier-row s (g .rows) (lastOf 16 (at .row) (v .y)) (lastOf 8 (at .row) (halved (v .y))) (y .in-picture) (y .by-chroma) (lower .0) in
-    join-larger (planeExtent s at v luma) (planeExtent s at v cr)
-    (omega (
-      arith,
-      address-tiles (s .pitch) (lastOf 16 (at .column) (v .x)) (lastOf 16 (at .row) (v .y)) (2 * lastOf 8 (at .column) (halved (v .x)) + 1) (s .«chroma_row» + lastOf 8 (at .row) (halved (v .y))) (leb-true 32 (s .pitch) (lower .1)) (omega (arith, x .by-chroma)) row,
-    ))
-
 -- ---- reach
--- The reach of a block that lies inside is what the block touches, where chroma is highest.
-pub inside-reach : (s : Surface) (g : Grid) (at : Position) (w : ℕ)
-    → chromaHighest s (g .rows) ≡ true
-    → blockInside g at (vectorOf w) ≡ true
-    → blockAt s g at (vectorOf w) ≡ Inside (reachOf s at w)
+-- The reach of a block that lies inside is what the block touches.
+pub inside-reach : (s : Surface) (g : Grid) (at : Position) (w : ℕ) → blockInside g at (vectorOf w) ≡ true → blockAt s g at (vectorOf w) ≡ Inside (reachOf s at w)
 unfolding blockAt reachOf
-inside-reach s g at w h t =
+inside-reach s g at w t =
     let v = vectorOf w in
     let two = tests g at v t in
     let x = both (leZ (pos 0) (firstOf 16 (at .column) (v .x))) _ (two .0) in
     let y = both (leZ (pos 0) (firstOf 16 (at .row) (v .y))) _ (two .1) in
     ap (λ (u : Bool). cond u (Inside (blockExtent s at v)) Outside) t
-    ∙ ap Inside (chroma-is-highest s g at w h t)
-    ∙ ap (λ (u : Bool). Inside (cond u (planeExtent s at v cr) emptyExtent)) (sym (ap₂ _&&_ (x .0) (y .0)))
+    ∙ ap (λ (u : Bool). Inside (cond u (blockExtent s at v) emptyExtent)) (sym (ap₂ _&&_ (x .0) (y .0)))
 
 -- A vector that keeps the lines keeps its codes' ranges, and its block lies inside and touches its reach.
 pub in-lines : (s : Surface) (g : Grid) (at : Position) (cx cy w : ℕ)
     → 0 < g .columns
     → 0 < g .rows
-    → chromaHighest s (g .rows) ≡ true
     → vectorInLines (lineOf (g .columns) cx) (lineOf (g .rows) cy) (at .column) (at .row) w ≡ true
     → (vectorInRange (vectorOf w) cx cy ≡ true) × (blockAt s g at (vectorOf w) ≡ Inside (reachOf s at w))
-in-lines s g at cx cy w hx hy h t =
+in-lines s g at cx cy w hx hy t =
     let two = both (vectorInRange (vectorOf w) cx cy) (blockInside g at (vectorOf w)) (sym (lines-exact g at cx cy w hx hy) ∙ t) in
-    (two .0, inside-reach s g at w h (two .1))
+    (two .0, inside-reach s g at w (two .1))
 
 -- A macroblock's own samples are the reach of the zero word.
-pub still-reach : (s : Surface) (g : Grid) (at : Position)
-    → at .column < g .columns
-    → at .row < g .rows
-    → chromaHighest s (g .rows) ≡ true
-    → blockAt s g at still ≡ Inside (reachOf s at 0)
+pub still-reach : (s : Surface) (g : Grid) (at : Position) → at .column < g .columns → at .row < g .rows → blockAt s g at still ≡ Inside (reachOf s at 0)
 unfolding blockAt vectorOf
-still-reach s g at hx hy h =
+still-reach s g at hx hy =
     let own = own-inside s g at hx hy in
-    inside-reach s g at 0 h (answer (blockInside g at still) (blockExtent s at still) (own .0) (own .1) .0)
+    inside-reach s g at 0 (answer (blockInside g at still) (blockExtent s at still) (own .0) (own .1) .0)
 
-zero-reach : (s : Surface) (at : Position) → reachOf s at 0 ≡ planeExtent s at still cr
+-- ---- own samples along a row
+abbrev ownOf : Surface → ℕ → ℕ → Extent
+ownOf s x y = reachOf s (record { column = x; row = y }) 0
+
+own-is : (s : Surface) (x y : ℕ) → ownOf s x y ≡ blockExtent s (record { column = x; row = y }) still
 unfolding reachOf vectorOf
-zero-reach s at = ap (λ (t : Bool). cond t (planeExtent s at still cr) emptyExtent) (ap₂ _&&_ (here (at .column)) (here (at .row)))
+own-is s x y = ap (λ (t : Bool). cond t (blockExtent s (record { column = x; row = y }) still) emptyExtent) (ap₂ _&&_ (here x) (here y))
   where
     here : (place : ℕ) → leZ (pos 0) (firstOf 16 place (pos 0)) ≡ true
     here place = le-leb 0 (16 * place + 0) (omega arith)
 
--- The reach of a macroblock's own samples grows along the row, as the address does with the column.
-pub reach-grows : (s : Surface) (x y : ℕ)
-    → joined (reachOf s (record { column = x; row = y }) 0) (reachOf s (record { column = x + 1; row = y }) 0) ≡ reachOf s (record { column = x + 1; row = y }) 0
-reach-grows s x y =
-    ap₂ joined (zero-reach s (record { column = x; row = y })) (zero-reach s (record { column = x + 1; row = y }))
-    ∙ join-larger (planeExtent s (record { column = x; row = y }) still cr) (planeExtent s (record { column = x + 1; row = y }) still cr)
-    (omega (arith, address-column (s .pitch) (s .«chroma_row» + lastOf 8 y (pos 0)) (2 * lastOf 8 x (pos 0) + 1) (2 * lastOf 8 (x + 1) (pos 0) + 1) (omega arith)))
-    ∙ sym (zero-reach s (record { column = x + 1; row = y }))
+-- both ends grow with the column, as the address does
+module _ (s : Surface) (x x′ y : ℕ) (h : x ≤ x′) where
+  own-first : 16 ≤ s .pitch → ownOf s x y .first ≤ ownOf s x′ y .first
+  own-first wide =
+      omega (
+        arith,
+        ap (λ (e : Extent). e .first) (own-is s x y ∙ block-is s (record { column = x; row = y }) still),
+        ap (λ (e : Extent). e .first) (own-is s x′ y ∙ block-is s (record { column = x′; row = y }) still),
+        sample-grows s luma {x = startOf 16 x (pos 0)} {x′ = startOf 16 x′ (pos 0)} {y = startOf 16 y (pos 0)} {y′ = startOf 16 y (pos 0)} wide (omega arith) (omega arith),
+        sample-grows s cb {x = startOf 8 x (pos 0)} {x′ = startOf 8 x′ (pos 0)} {y = startOf 8 y (pos 0)} {y′ = startOf 8 y (pos 0)} wide (omega arith) (omega arith),
+      )
+
+  own-end : 16 ≤ s .pitch → ownOf s x y .end ≤ ownOf s x′ y .end
+  own-end wide =
+      omega (
+        arith,
+        ap (λ (e : Extent). e .end) (own-is s x y ∙ block-is s (record { column = x; row = y }) still),
+        ap (λ (e : Extent). e .end) (own-is s x′ y ∙ block-is s (record { column = x′; row = y }) still),
+        sample-grows s luma {x = lastOf 16 x (pos 0)} {x′ = lastOf 16 x′ (pos 0)} {y = lastOf 16 y (pos 0)} {y′ = lastOf 16 y (pos 0)} wide (omega arith) (omega arith),
+        sample-grows s cr {x = lastOf 8 x (pos 0)} {x′ = lastOf 8 x′ (pos 0)} {y = lastOf 8 y (pos 0)} {y′ = lastOf 8 y (pos 0)} wide (omega arith) (omega arith),
+      )
+
+own-touches : (s : Surface) (x y : ℕ) → 0 < ownOf s x y .end
+own-touches s x y = omega (arith, ap (λ (e : Extent). e .end) (own-is s x y ∙ block-is s (record { column = x; row = y }) still))
+
+-- The own samples of macroblocks in a row, one more of them: from the first byte of the first to the end of the last.
+pub own-along : (s : Surface) (x m z y : ℕ)
+    → 16 ≤ s .pitch
+    → x ≤ z
+    → m ≤ z
+    → joined (between (reachOf s (record { column = x; row = y }) 0 .first) (reachOf s (record { column = m; row = y }) 0 .end)) (reachOf s (record { column = z; row = y }) 0)
+    ≡ between (reachOf s (record { column = x; row = y }) 0 .first) (reachOf s (record { column = z; row = y }) 0 .end)
+own-along s x m z y wide h k =
+    let first : min (ownOf s x y .first) (ownOf s z y .first) ≡ ownOf s x y .first = omega (arith, own-first s x z y h wide) in
+    let end : max (ownOf s m y .end) (ownOf s z y .end) ≡ ownOf s z y .end = omega (arith, own-end s m z y k wide) in
+    join-both (between (ownOf s x y .first) (ownOf s m y .end)) (ownOf s z y) (own-touches s m y) (own-touches s z y) ∙ ap₂ between first end
+
+-- ---- where blocks begin
+-- A block that starts in the picture, in half samples from the edges, begins at or behind the floor of every lower y.
+module _ (s : Surface) (at : Position) (x y b u v : ℕ) (hx : x < 65536) (hy : y < 65536) (eu : u + 32768 ≡ 32 * at .column + x) (ev : v + 32768 ≡ 32 * at .row + y) (low : b ≤ y) where
+  above-wide : 16 ≤ s .pitch → floorOf s (at .row) b ≤ blockExtent s at (pair (subℕ x 32768) (subℕ y 32768)) .first
+  unfolding floorOf
+  above-wide wide =
+      let top = 32 * at .row + b - 32768 in
+      let luma = le-trans (address-column (s .pitch) (top / 2) 0 (u / 2) (omega arith)) (address-row (s .pitch) (u / 2) (top / 2) (v / 2) wide (omega arith)) in
+      let chroma = le-trans (address-column (s .pitch) (s .«chroma_row») 0 (2 * ((u + (1 - x / 32768)) / 4)) (omega arith))
+      (address-row (s .pitch) (2 * ((u + (1 - x / 32768)) / 4)) (s .«chroma_row») (s .«chroma_row» + (v + (1 - y / 32768)) / 4) wide (omega arith)) in
+      let first = first-at s at x y u v (u / 2) (v / 2) ((u + (1 - x / 32768)) / 4) ((v + (1 - y / 32768)) / 4) hx hy eu ev refl refl refl refl in
+      simp (le-leb 16 (s .pitch) wide) (omega (arith, luma, chroma, first))
+
+  above-narrow : s .pitch < 16 → floorOf s (at .row) b ≤ blockExtent s at (pair (subℕ x 32768) (subℕ y 32768)) .first
+  unfolding floorOf
+  above-narrow narrow = simp (lt-leb 16 (s .pitch) narrow) (omega arith)
+
+  pub above-start : floorOf s (at .row) b ≤ blockExtent s at (pair (subℕ x 32768) (subℕ y 32768)) .first
+  above-start = by (split (s .pitch) 16)
+    where
+      by : (s .pitch < 16) ⊎ (16 ≤ s .pitch) → floorOf s (at .row) b ≤ blockExtent s at (pair (subℕ x 32768) (subℕ y 32768)) .first
+      by (inl narrow) = above-narrow narrow
+      by (inr wide) = above-wide wide
+
+-- A block whose vector keeps two lines begins at or behind the floor of its row of macroblocks, and touches some byte.
+pub above-floor : (s : Surface) (at : Position) (l k : Line) (w : ℕ)
+    → vectorInLines l k (at .column) (at .row) w ≡ true
+    → (floorOf s (at .row) (k .low) ≤ reachOf s at w .first) × (0 < reachOf s at w .end)
+unfolding vectorInLines
+above-floor s at l k w t =
+    let f = vector-fits w in
+    let x = biasOf (vectorOf w .x) in
+    let y = biasOf (vectorOf w .y) in
+    let ex = bias-back (vectorOf w .x) (f .0 .sfits) in
+    let ey = bias-back (vectorOf w .y) (f .1 .sfits) in
+    let two = both (inLine l (at .column) (vectorOf w .x)) (inLine k (at .row) (vectorOf w .y)) t in
+    let column = line-means l (at .column) x (ap (inLine l (at .column)) ex ∙ two .0) in
+    let row = line-means k (at .row) y (ap (inLine k (at .row)) ey ∙ two .1) in
+    let u = 32 * at .column + x - 32768 in
+    let v = 32 * at .row + y - 32768 in
+    let eu : u + 32768 ≡ 32 * at .column + x = omega (arith, column .first) in
+    let ev : v + 32768 ≡ 32 * at .row + y = omega (arith, row .first) in
+    let is = reach-inside s at w x y ex ey u v eu ev in
+    let start = above-start s at x y (k .low) u v (bias-lt (vectorOf w .x) (f .0 .sfits)) (bias-lt (vectorOf w .y) (f .1 .sfits)) eu ev (row .from) in (
+      subst (λ (e : Extent). floorOf s (at .row) (k .low) ≤ e .first) (sym is) start,
+      omega (arith, ap (λ (e : Extent). e .end) (is ∙ block-is s at (pair (subℕ x 32768) (subℕ y 32768)))),
+    )
+
+-- On a surface whose pitch is a 32-bit number the first byte is a 64-bit number.
+module _ (s : Surface) (at : Position) (w : ℕ) (hp : s .pitch < 2 ^ 32) (hx : at .column < 2 ^ 16) (hy : at .row < 2 ^ 16) where
+  fits-by : (x y : ℕ) → x < 65536 → y < 65536 → subℕ x 32768 ≡ vectorOf w .x → subℕ y 32768 ≡ vectorOf w .y
+      → (t : Bool) → (leb 32768 (32 * at .column + x) && leb 32768 (32 * at .row + y)) ≡ t → reachOf s at w .first < 2 ^ 64
+  unfolding emptyExtent
+  fits-by x y lx ly ex ey false e = omega (arith, ap (λ (f : Extent). f .first) (reach-before s at w x y ex ey e))
+  fits-by x y lx ly ex ey true e =
+      let is = reach-starts s at w x y ex ey e in
+      let u = 32 * at .column + x - 32768 in
+      let v = 32 * at .row + y - 32768 in
+      let first = first-at s at x y u v (u / 2) (v / 2) ((u + (1 - x / 32768)) / 4) ((v + (1 - y / 32768)) / 4) lx ly (omega (arith, is .0)) (omega (arith, is .1)) refl refl refl refl in
+      let tiles : v / 2 / 32 * 32 * s .pitch ≤ 2097151 * 4294967295 = product-le 2097151 4294967295 (omega arith) (omega arith) in
+      omega (arith, ap (λ (f : Extent). f .first) (is .2), first, address-parts (s .pitch) (u / 2) (v / 2), tiles)
+
+  pub first-fits : reachOf s at w .first < 2 ^ 64
+  first-fits =
+      let f = vector-fits w in
+      fits-by (biasOf (vectorOf w .x)) (biasOf (vectorOf w .y)) (bias-lt (vectorOf w .x) (f .0 .sfits)) (bias-lt (vectorOf w .y) (f .1 .sfits))
+      (bias-back (vectorOf w .x) (f .0 .sfits)) (bias-back (vectorOf w .y) (f .1 .sfits)) _ refl

@@ -6,9 +6,9 @@ use native.Mathlib.Omega.{arith}
 use lib.IntN.{ℤ, pos, subℕ}
 use lib.Signed.{_≤ℤ_, _<ℤ_}
 use Rattle.prediction.specs.Spans.{inside, Covers}
-use Rattle.prediction.specs.Blocks.{Within, lastOf}
+use Rattle.prediction.specs.Blocks.{Within, startOf, lastOf}
 use Rattle.prediction.proofs.Integers.{pos-sub, moved, le-means, le-holds, lt-means, lt-holds}
-use Rattle.prediction.proofs.Components.{inside-means, inside-holds, covers-means, covers-holds, last-is}
+use Rattle.prediction.proofs.Components.{inside-means, inside-holds, covers-means, covers-holds, start-is, last-is}
 
 -- the test on the ends says that every sample lies in the picture
 module _ (size place n : ℕ) where
@@ -38,6 +38,31 @@ module _ (size place n : ℕ) where
 
   pub within-inside : (v : ℤ) → 0 < size → Within size place n v → inside size place n v ≡ true
   within-inside v = let m = moved v in subst (λ (z : ℤ). 0 < size → Within size place n z → inside size place n z ≡ true) (sym (m .is)) (inside-moved (m .b) (m .k))
+
+-- the first sample of a block that lies inside is covered, and no covered sample lies before it
+module _ (size place n : ℕ) where
+  first-moved : (b k : ℕ) → 0 < size → inside size place n (subℕ b (2 * k)) ≡ true → Covers size place (subℕ b (2 * k)) (pos (startOf size place (subℕ b (2 * k))))
+  first-moved b k hs t =
+      let from = inside-means size place b k n t .0 in
+      let is = start-is size place b k from in
+      let first = size * place + b / 2 - k in
+      subst (Covers size place (subℕ b (2 * k))) (sym (ap pos is ∙ pos-sub first)) (covers-holds size place b k first 0 (omega arith) (omega arith))
+
+  pub first-covered : (v : ℤ) → 0 < size → inside size place n v ≡ true → Covers size place v (pos (startOf size place v))
+  first-covered v =
+      let m = moved v in
+      subst (λ (z : ℤ). 0 < size → inside size place n z ≡ true → Covers size place z (pos (startOf size place z))) (sym (m .is)) (first-moved (m .b) (m .k))
+
+  from-moved : (b k : ℕ) → inside size place n (subℕ b (2 * k)) ≡ true → (i : ℕ) → Covers size place (subℕ b (2 * k)) (pos i) → startOf size place (subℕ b (2 * k)) ≤ i
+  from-moved b k t i h =
+      let from = inside-means size place b k n t .0 in
+      let is = covers-means size place b k i 0 (subst (Covers size place (subℕ b (2 * k))) (pos-sub i) h) in
+      omega (arith, start-is size place b k from)
+
+  pub from-first : (v : ℤ) → inside size place n v ≡ true → (i : ℕ) → Covers size place v (pos i) → startOf size place v ≤ i
+  from-first v =
+      let m = moved v in
+      subst (λ (z : ℤ). inside size place n z ≡ true → (i : ℕ) → Covers size place z (pos i) → startOf size place z ≤ i) (sym (m .is)) (from-moved (m .b) (m .k))
 
 -- the last sample of a block that lies inside is covered, and no covered sample lies behind it
 module _ (size place n : ℕ) where

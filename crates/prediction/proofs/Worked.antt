@@ -9,14 +9,14 @@ use Rattle.prediction.specs.Ranges.{inRange, vectorInRange}
 use Rattle.prediction.specs.Spans.{firstOf, countOf, halved}
 use Rattle.prediction.specs.Addresses.{address}
 use Rattle.prediction.specs.Extents.{emptyExtent, joined}
-use Rattle.prediction.specs.Blocks.{blockAt}
-use Rattle.prediction.specs.Lines.{lineOf, reachOf, chromaHighest}
+use Rattle.prediction.specs.Blocks.{blockAt, blockExtent}
+use Rattle.prediction.specs.Lines.{lineOf, reachOf, floorOf}
 use Rattle.prediction.specs.declared.Vector.{Vector}
 use Rattle.prediction.specs.declared.Surface.{Surface}
 use Rattle.prediction.specs.declared.Line.{Line}
 use Rattle.prediction.specs.declared.Extent.{Extent}
 use Rattle.prediction.proofs.TwosComplement.{pair as vector}
-use Rattle.prediction.proofs.ExtentLaws.{upTo}
+use Rattle.prediction.proofs.ExtentLaws.{between}
 use Rattle.prediction.specs.declared.Block.{Block}
 use Rattle.prediction.specs.declared.Block.the-variants.{Outside, Inside}
 
@@ -60,8 +60,8 @@ chroma-count = refl
 abbrev answerTo : Vector → Block
 answerTo v = blockAt (record { pitch = 128; «chroma_row» = 16 }) (record { columns = 2; rows = 1 }) (record { column = 0; row = 0 }) v
 
-abbrev inside : ℕ → Block
-inside n = Inside (upTo n)
+abbrev inside : ℕ → ℕ → Block
+inside first end = Inside (between first end)
 
 p8-to-p12 : map answerTo
     (vector (pos 0) (pos 0)
@@ -72,14 +72,15 @@ p8-to-p12 : map answerTo
     ∷ vector (minus 1) (pos 0)
     ∷ vector (pos 0) (pos 1)
     ∷ [])
-    ≡ inside 384 ∷ inside 753 ∷ inside 882 ∷ inside 896 ∷ Outside ∷ Outside ∷ Outside ∷ []
-unfolding blockAt joined address
+    ≡ inside 0 384 ∷ inside 0 753 ∷ inside 1 882 ∷ inside 512 896 ∷ Outside ∷ Outside ∷ Outside ∷ []
+unfolding blockAt blockExtent joined address
 p8-to-p12 = refl
 
 -- the last macroblock of the largest picture: its last chroma row, 34166, is row 22 of the tiles from row 34144 on, and
--- 34144·131072 + 31·4096 + 7·512 + 22·16 + 15 + 1 is past 2^32
-largest : blockAt (record { pitch = 131072; «chroma_row» = 32767 }) (record { columns = 256; rows = 175 }) (record { column = 255; row = 174 }) (vector (pos 0) (pos 0)) ≡ inside 4475453296
-unfolding blockAt joined address
+-- 34144·131072 + 31·4096 + 7·512 + 22·16 + 15 + 1 is past 2^32; its first luma row, 2784, is row 0 of its tiles, and its first luma
+-- column, 4080, is column 112 of the tile from column 3968 on: 2784·131072 + 31·4096 + 7·512
+largest : blockAt (record { pitch = 131072; «chroma_row» = 32767 }) (record { columns = 256; rows = 175 }) (record { column = 255; row = 174 }) (vector (pos 0) (pos 0)) ≡ inside 365035008 4475453296
+unfolding blockAt blockExtent joined address
 largest = refl
 
 -- the line of two macroblocks: components from -16 to 15 for codes 0 and 1, -4096 to 4095 for 9, any for 12 and above
@@ -90,26 +91,33 @@ lines : map (lineOf 2) (0 ∷ 1 ∷ 9 ∷ 12 ∷ 255 ∷ []) ≡ line 32752 31 1
 unfolding lineOf
 lines = refl
 
--- the words of P8 to P12: how far Cr reaches. That is their answer but for P9, where luma is higher (753); nothing is reached from
--- before the picture
+-- a picture buffer whose chroma rows stand above its luma rows: the first byte is Cb's. Column 16 of row 16 is the second strip's, 512 +
+-- 256; Cb is 2·8, row 8, in the same strip: 512 + 128
 abbrev surface : ℕ → ℕ → Surface
 surface pitch row = record { pitch = pitch; «chroma_row» = row }
 
+chroma-begins : blockAt (surface 128 0) (record { columns = 2; rows = 2 }) (record { column = 1; row = 1 }) (vector (pos 0) (pos 0)) ≡ inside 640 1024
+unfolding blockAt blockExtent joined address
+chroma-begins = refl
+
+-- no byte is not byte 0
+joins : joined emptyExtent (between 5 9) ∷ joined (between 5 9) emptyExtent ∷ joined (between 5 9) (between 2 7) ∷ joined (between 2 7) (between 5 9) ∷ []
+    ≡ between 5 9 ∷ between 5 9 ∷ between 2 9 ∷ between 2 9 ∷ []
+unfolding joined emptyExtent
+joins = refl
+
+-- the words of P8 to P12: their answer, and nothing from before the picture
 abbrev reach : ℕ → Extent
 reach w = reachOf (surface 128 16) (record { column = 0; row = 0 }) w
 
 reaches : map reach (0x00000000 ∷ 0x00000001 ∷ 0x00000002 ∷ 0x00000020 ∷ 0x0000ffff ∷ [])
-    ≡ upTo 384 ∷ upTo 384 ∷ upTo 882 ∷ upTo 896 ∷ upTo 0 ∷ []
-unfolding reachOf vectorOf emptyExtent address
+    ≡ between 0 384 ∷ between 0 753 ∷ between 1 882 ∷ between 512 896 ∷ between 0 0 ∷ []
+unfolding reachOf blockExtent vectorOf joined emptyExtent address
 reaches = refl
 
--- so chroma is not always highest there; it is where all luma is in earlier rows of tiles, or chroma begins at row 64 or below
-highest : map (λ (c : ℕ). chromaHighest (surface 128 c) 1) (16 ∷ 31 ∷ 32 ∷ []) ++ map (λ (c : ℕ). chromaHighest (surface 128 c) 3) (48 ∷ 63 ∷ 64 ∷ [])
-    ≡ false ∷ false ∷ true ∷ false ∷ false ∷ true ∷ []
-unfolding chromaHighest
-highest = refl
-
--- and not where luma rows are below chroma rows, or a row of tiles is shorter than two strips
-not-highest : chromaHighest (surface 128 80) 6 ∷ chromaHighest (surface 16 64) 4 ∷ [] ≡ false ∷ false ∷ []
-unfolding chromaHighest
-not-highest = refl
+-- f code 4 goes 128 half samples up, so that blocks of the first five rows of macroblocks can begin in row 0, those of the sixth in row
+-- 16 and those of the seventh in row 32, the first of the next row of tiles; or in chroma's first row, if that is above
+floors : map (λ (row : ℕ). floorOf (surface 128 112) row 32640) (0 ∷ 4 ∷ 5 ∷ 6 ∷ []) ++ (floorOf (surface 128 20) 6 32640 ∷ floorOf (surface 15 112) 6 32640 ∷ [])
+    ≡ 0 ∷ 0 ∷ 256 ∷ 4096 ∷ 320 ∷ 0 ∷ []
+unfolding floorOf address
+floors = refl

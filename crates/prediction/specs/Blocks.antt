@@ -12,7 +12,7 @@ use Rattle.prediction.specs.declared.Position.{Position}
 use Rattle.prediction.specs.declared.Extent.{Extent}
 use Rattle.prediction.specs.declared.Block.{Block}
 use Rattle.prediction.specs.declared.Block.the-variants.{Outside, Inside}
-use Rattle.prediction.specs.Spans.{endOf, inside, halved, Covers}
+use Rattle.prediction.specs.Spans.{firstOf, endOf, inside, halved, Covers}
 use Rattle.prediction.specs.Addresses.{Plane, luma, cb, cr, sampleByte}
 use Rattle.prediction.specs.Extents.{joined}
 
@@ -51,22 +51,28 @@ InPicture g at v = Within 16 (at .column) (g .columns) (v .x) × Within 16 (at .
 abbrev pub blockInside : Grid → Position → Vector → Bool
 blockInside g at v = inside 16 (at .column) (g .columns) (v .x) && inside 16 (at .row) (g .rows) (v .y)
 
--- The last sample of a block that starts at 0 or above.
+-- The first and the last sample of a block that starts at 0 or above.
+abbrev pub startOf : ℕ → ℕ → ℤ → ℕ
+startOf size place v = natAbs (firstOf size place v)
+
 abbrev pub lastOf : ℕ → ℕ → ℤ → ℕ
 lastOf size place v = natAbs (endOf size place v) - 1
 
--- What the block touches through one plane: up to its last sample, the last column of the last row.
+-- What the block touches through one plane: from its first sample, the first column of the first row, to its last, the last column
+-- of the last row.
 abbrev pub planeExtent : Surface → Position → Vector → Plane → Extent
 planeExtent s at v p =
     record {
+      first =
+          sampleByte s p (startOf (sizeIn p) (at .column) (componentIn p (v .x))) (startOf (sizeIn p) (at .row) (componentIn p (v .y)));
       end =
           sampleByte s p (lastOf (sizeIn p) (at .column) (componentIn p (v .x))) (lastOf (sizeIn p) (at .row) (componentIn p (v .y)))
           + 1;
     }
 
--- What the block touches. Its last Cr sample stands behind its last Cb sample, so Cb adds nothing.
-abbrev pub blockExtent : Surface → Position → Vector → Extent
-blockExtent s at v = joined (planeExtent s at v luma) (planeExtent s at v cr)
+-- What the block touches: what it does through any of the three planes.
+unfoldable pub blockExtent : Surface → Position → Vector → Extent
+blockExtent s at v = joined (planeExtent s at v luma) (joined (planeExtent s at v cb) (planeExtent s at v cr))
 
 -- The answer for a block: rule 10's `Outside`, or what it touches.
 unfoldable pub blockAt : Surface → Grid → Position → Vector → Block

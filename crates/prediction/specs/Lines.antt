@@ -1,9 +1,8 @@
 -- Vectors judged by numbers that are made once for a line of blocks, a row or a column of macroblocks alike. They say nothing
--- new: the laws of proofs/LineLaws.antt give back the range of the f code, the inside test and the block's extent, the last where
--- chroma is highest.
--- Proved: against the range, the inside test and the block, by `lines-exact`, `in-lines` and `chroma-is-highest` (proofs/LineLaws.antt).
+-- new: the laws of proofs/LineLaws.antt give back the range of the f code, the inside test and the block's extent.
+-- Proved: against the range, the inside test and the block, by `lines-exact`, `in-lines` and `above-floor` (proofs/LineLaws.antt).
 use Prim.Native.Nat.{ℕ, _+_, _-_, _*_, _/_, _^_, min}
-use mathlib.Core.Bool.{Bool, cond, _&&_, _||_}
+use mathlib.Core.Bool.{Bool, cond, _&&_}
 use lib.IntN.{ℤ, pos, subℕ, _+ℤ_}
 use lib.Dec.{leb}
 use lib.Signed.{leZ}
@@ -14,8 +13,8 @@ use Rattle.prediction.specs.declared.Line.{Line}
 use Rattle.prediction.specs.Vectors.{vectorOf}
 use Rattle.prediction.specs.Spans.{firstOf}
 use Rattle.prediction.specs.Extents.{emptyExtent}
-use Rattle.prediction.specs.Addresses.{cr}
-use Rattle.prediction.specs.Blocks.{planeExtent}
+use Rattle.prediction.specs.Addresses.{address}
+use Rattle.prediction.specs.Blocks.{blockExtent}
 
 -- 16·2^(c−1) of specs/Ranges.antt, at most 32768: no component of a word lies further from 0.
 abbrev pub limitOf : ℕ → ℕ
@@ -36,20 +35,13 @@ inLine l place v =
 unfoldable pub vectorInLines : Line → Line → ℕ → ℕ → ℕ → Bool
 vectorInLines x y column row w = inLine x column (vectorOf w .x) && inLine y row (vectorOf w .y)
 
--- What the block touches that the word's vector displaces, up to its last Cr sample, where it starts in the picture; nothing where
--- it starts before it.
+-- What the block touches that the word's vector displaces, where it starts in the picture; nothing where it starts before it.
 unfoldable pub reachOf : Surface → Position → ℕ → Extent
 reachOf s at w =
-    cond (leZ (pos 0) (firstOf 16 (at .column) (vectorOf w .x)) && leZ (pos 0) (firstOf 16 (at .row) (vectorOf w .y))) (planeExtent s at (vectorOf w) cr) emptyExtent
+    cond (leZ (pos 0) (firstOf 16 (at .column) (vectorOf w .x)) && leZ (pos 0) (firstOf 16 (at .row) (vectorOf w .y))) (blockExtent s at (vectorOf w)) emptyExtent
 
--- The first chroma row from which on it does not matter in which row of its tiles chroma begins.
-abbrev pub chromaFrom : ℕ
-chromaFrom = 64
-
--- A surface on which the last Cr byte of a block is its highest byte, in every picture of so many rows of macroblocks: a block's last
--- luma row is in an earlier row of tiles than its last chroma row. So it is if all luma rows are in earlier rows of tiles than the
--- first chroma row; and also if chroma begins just behind luma but far enough down, since a block's last chroma row is half as far
--- below the first chroma row as its last luma row is below the first luma row.
-unfoldable pub chromaHighest : Surface → ℕ → Bool
-chromaHighest s rows =
-    (leb (16 * rows) (s .«chroma_row» / 32 * 32) || (leb chromaFrom (s .«chroma_row») && leb (16 * rows) (s .«chroma_row»))) && leb 32 (s .pitch)
+-- A byte before which no block of a row of macroblocks begins whose vector's y, counted from −32768, is b or more: column 0 of the
+-- first luma row that such a block can have, or of the first chroma row of all. On a surface too narrow for a strip it is 0.
+unfoldable pub floorOf : Surface → ℕ → ℕ → ℕ
+floorOf s row b =
+    cond (leb 16 (s .pitch)) (min (address (s .pitch) 0 ((32 * row + b - 32768) / 2)) (address (s .pitch) 0 (s .«chroma_row»))) 0

@@ -25,8 +25,10 @@ pub struct Position {
     pub row: u16,
 }
 
-// What is touched of one picture buffer: end is one more than its highest touched byte, 0 where none is touched.
+// What is touched of one picture buffer: first is its lowest touched byte and end one more than its highest, both 0 where none is
+// touched. Whether any is, the end tells.
 pub struct Extent {
+    pub first: u64,
     pub end: u64,
 }
 

@@ -9,9 +9,11 @@ mod spans;
 mod vectors;
 
 pub use blocks::block_at;
-pub use lines::chroma_highest;
+pub use lines::first_with;
+pub use lines::floor_of;
 pub use lines::line_of;
-pub use lines::reach_of;
+pub use lines::reach_end;
+pub use lines::reach_first;
 pub use lines::vector_in_lines;
 pub use ranges::vector_in_range;
 pub use vectors::vector_of;

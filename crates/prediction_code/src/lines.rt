@@ -1,6 +1,7 @@
 // Vectors of the macroblocks of one line, judged by numbers that are made once for the line. A component b stands for
 // b - 32768 half samples.
 use crate::addresses::address;
+use crate::blocks;
 use crate::extents;
 use crate::ranges::exponent;
 use crate::spans;
@@ -9,10 +10,12 @@ use prediction::Extent;
 use prediction::Line;
 use prediction::Surface;
 ghost use mathlib.Core.Path.{_≡_};
-ghost use Prim.Native.Nat.{_+_, _*_, _-_, _/_, _%_, _^_, _≤_, _<_};
+ghost use mathlib.Core.Bool.{_&&_};
+ghost use Prim.Native.Nat.{_+_, _*_, _-_, _<_, min};
+ghost use lib.Dec.{leb};
 ghost use lib.IntN.{subℕ};
 ghost use Rattle.prediction.specs.Vectors.{vectorOf};
-ghost use Rattle.prediction.specs.Lines.{lineOf, inLine, vectorInLines, reachOf, chromaHighest};
+ghost use Rattle.prediction.specs.Lines.{lineOf, inLine, vectorInLines, reachOf, floorOf};
 
 // The place of the last of n blocks.
 fn last_place(n: u16) -> u16
@@ -43,14 +46,6 @@ pub fn line_of(n: u16, code: u8) -> Line
     Line { low, span, last }
 }
 
-// The half samples from the picture's edge to the start of a block; 4294967296 more where that is negative.
-fn start(place: u16, b: u32) -> u32
-    requires { ⌜ b < 65536 ⌝ }
-    ensures { λ r. ⌜ (r + 32768) % 2 ^ 32 ≡ 32 * place + b ⌝ }
-{
-    std::num::wrapping_sub_u32(32 * (place as u32) + b, 32768)
-}
-
 // Whether the component b - 32768 keeps the line. A difference that wraps is larger than any that is allowed.
 fn in_line(line: Line, place: u16, b: u32) -> bool
     requires { ⌜ b < 65536 ⌝ }
@@ -62,7 +57,7 @@ fn in_line(line: Line, place: u16, b: u32) -> bool
     if span < std::num::wrapping_sub_u32(b, low) {
         return false;
     }
-    start(place, b) <= 32 * last
+    spans::start(place, b) <= 32 * last
 }
 
 // The components of a word's vector, plus 32768.
@@ -92,49 +87,78 @@ pub fn vector_in_lines(x: Line, y: Line, column: u16, row: u16, word: u32) -> bo
     in_line(y, row, y_of(word))
 }
 
-// 1 for a negative component.
-fn below(b: u32) -> u32
-    requires { ⌜ b < 65536 ⌝ }
-    ensures { λ r. ⌜ r + b / 32768 ≡ 1 ⌝ }
+// Whether a block with these components starts in the picture, and not before it.
+fn starts(column: u16, row: u16, x: u32, y: u32) -> bool
+    requires { ⌜ (x < 65536) × (y < 65536) ⌝ }
+    ensures { λ r. ⌜ r ≡ (leb 32768 (32 * column + x) && leb 32768 (32 * row + y)) ⌝ }
 {
-    if b < 32768 { 1 } else { 0 }
+    (spans::start(column, x) <= 16777216) & (spans::start(row, y) <= 16777216)
 }
 
-// The last chroma sample of a block that starts u half samples from the picture's edge: the component is halved towards zero.
-fn chroma_last(u: u32, b: u32) -> u32
-    requires { ⌜ (u ≤ 16777216) × (b < 65536) ⌝ }
-    ensures { λ r. ⌜ r ≡ (u + (1 - b / 32768) + 2) / 4 + 7 ⌝ }
-{
-    (u + below(b) + 2) / 4 + 7
-}
-
-// What the block touches that the vector of a word displaces, up to its last Cr sample; nothing where it starts before the picture.
-pub fn reach_of(surface: Surface, column: u16, row: u16, word: u32) -> Extent
-    ensures { λ r. ⌜ r ≡ reachOf surface (record { column = column; row = row }) word ⌝ }
+// The end of the block that the vector of a word displaces, 0 where it starts before the picture. The surface comes as its two numbers,
+// since the row's loop asks this for each vector: a struct would be packed into one number for it and taken apart again.
+pub fn reach_end(pitch: u32, chroma_row: u16, column: u16, row: u16, word: u32) -> u64
+    ensures { λ r. ⌜ r ≡ reachOf (record { pitch = pitch; «chroma_row» = «chroma_row» }) (record { column = column; row = row }) word .end ⌝ }
 {
     let x = x_of(word);
     let y = y_of(word);
-    let u = start(column, x);
-    let v = start(row, y);
-    if 16777216 < u {
-        return extents::empty();
+    if !starts(column, row, x, y) {
+        return 0;
     }
-    if 16777216 < v {
-        return extents::empty();
-    }
-    let cr_column = 2 * chroma_last(u, x) + 1;
-    let cr_row = surface.chroma_row as u32 + chroma_last(v, y);
-    let end = address(surface.pitch, cr_column, cr_row) + 1;
-    Extent { end }
+    blocks::block_end(pitch, chroma_row, column, row, x, y)
 }
 
-// Whether the last Cr byte of a block is its highest byte, in every picture of so many rows of macroblocks.
-pub fn chroma_highest(surface: Surface, rows: u16) -> bool
-    ensures { λ r. ⌜ r ≡ chromaHighest surface rows ⌝ }
+// The first byte of the same block, 0 where it starts before the picture.
+pub fn reach_first(surface: Surface, column: u16, row: u16, word: u32) -> u64
+    ensures { λ r. ⌜ r ≡ reachOf surface (record { column = column; row = row }) word .first ⌝ }
 {
-    let chroma_row = surface.chroma_row as u32;
-    let luma_rows = 16 * (rows as u32);
-    let apart = luma_rows <= chroma_row / 32 * 32;
-    let far = (64 <= chroma_row) & (luma_rows <= chroma_row);
-    (apart | far) & (32 <= surface.pitch)
+    let x = x_of(word);
+    let y = y_of(word);
+    if !starts(column, row, x, y) {
+        return 0;
+    }
+    blocks::block_first(surface.pitch, surface.chroma_row, column, row, x, y)
+}
+
+// How much more than 32768 a number is.
+fn above(n: u32) -> u32
+    ensures { λ r. ⌜ r ≡ n - 32768 ⌝ }
+{
+    if n < 32768 {
+        return 0;
+    }
+    n - 32768
+}
+
+// The byte before which no block of a row of macroblocks begins whose vector's y is low - 32768 or more.
+pub fn floor_of(surface: Surface, row: u16, low: u16) -> u64
+    ensures { λ r. ⌜ r ≡ floorOf surface row low ⌝ }
+{
+    let pitch = surface.pitch;
+    let from = 32 * (row as u32) + low as u32;
+    let top = above(from);
+    if pitch < 16 {
+        return 0;
+    }
+    let luma = address(pitch, 0, top / 2);
+    let chroma = address(pitch, 0, surface.chroma_row as u32);
+    extents::lower(luma, chroma)
+}
+
+// The lower of a first byte and that of the same block. Most blocks begin behind it, as their row alone tells.
+pub fn first_with(first: u64, surface: Surface, column: u16, row: u16, word: u32) -> u64
+    ensures { λ r. ⌜ r ≡ min first (reachOf surface (record { column = column; row = row }) word .first) ⌝ }
+{
+    let x = x_of(word);
+    let y = y_of(word);
+    if !starts(column, row, x, y) {
+        return 0;
+    }
+    if first <= floor_of(surface, row, y as u16) {
+        return first;
+    }
+    extents::lower(
+        first,
+        blocks::block_first(surface.pitch, surface.chroma_row, column, row, x, y),
+    )
 }

@@ -1,9 +1,9 @@
 -- The commands of a row so far: what the loop of `take_row` keeps.
-use mathlib.Core.Bool.{Bool, true, false, not}
+use mathlib.Core.Bool.{Bool, true, false, cond, not}
 use mathlib.Core.List.{List, [], _∷_, _++_, append-assoc, append-nil, flatten}
 use mathlib.Core.Logic.{_⊎_, inl, inr}
-use mathlib.Core.Path.{_≡_, refl, sym, ap, ap₂, subst, _∙_}
-use Prim.Native.Nat.{ℕ, _+_, _*_, _-_, _≤_, _<_}
+use mathlib.Core.Path.{_≡_, refl, sym, ap, ap₂, subst, subst₂, _∙_}
+use Prim.Native.Nat.{ℕ, _+_, _*_, _-_, _/_, _≤_, _<_}
 use native.Mathlib.Nat.{add-zero, add-assoc}
 use native.Mathlib.Omega.{arith}
 use borrow.Author.Tests.{lt-ltb}
@@ -11,10 +11,11 @@ use lib.ListN.{length, take, drop, length-take, length-drop}
 use lib.Seq.{take-add, getD-drop, getD-take}
 use Rattle.lists.proofs.Slices.{same-part}
 use Rattle.fields.specs.Word.{bits, isSet}
-use Rattle.prediction.specs.Extents.{joined}
+use Rattle.prediction.specs.Extents.{emptyExtent, joined}
+use Rattle.prediction.specs.Lines.{lineOf}
 use Rattle.prediction.specs.declared.Extent.{Extent}
-use Rattle.prediction.proofs.ExtentLaws.{join-assoc}
-use Rattle.prediction.proofs.LineLaws.{reach-grows}
+use Rattle.prediction.proofs.ExtentLaws.{between, join-assoc}
+use Rattle.prediction.proofs.LineLaws.{own-along}
 use Rattle.headers.specs.Headers.{macroblockHeader}
 use Rattle.headers.specs.Words.{wordAt}
 use Rattle.answers.specs.Answers.{judged}
@@ -22,17 +23,15 @@ use Rattle.answers.specs.declared.Answer.the-variants.{Accepted}
 use Rattle.progress.specs.declared.Progress.{Progress}
 use Rattle.placement.specs.Placing.{macroblockRules}
 use Rattle.placement.specs.Progressing.{positionAfter, stageAfter, macroblockNext}
-use Rattle.rows.specs.Rows.{Follow, TakenFrom, previousIn, afterRow, AfterRow, OpenRow}
-use Rattle.rows.specs.Steps.{placeIn, reachIn, Found}
+use Rattle.rows.specs.Rows.{Follow, TakenFrom, previousIn, ownIn, afterRow, AfterRow, OpenRow}
+use Rattle.rows.specs.Steps.{linesOf, placeIn, reachIn, ForwardFits, BackwardFits, Found}
+use Rattle.rows.specs.Touching.{commandAt, usesVector, touchedAfter, forwardAfter, backwardAfter, Seen}
 use Rattle.rows.specs.Words.{dueBits}
 use Rattle.rows.specs.declared.Taken.{Taken}
 use Rattle.rows.proofs.Keeping.{accepted}
-use Rattle.rows.proofs.Taking.{found-joins, next-is}
+use Rattle.rows.proofs.Taking.{found-comes, next-is}
+use Rattle.rows.proofs.TouchedLaws.{after-next, fit-more}
 use Rattle.rows.specs.Keeping.{Stands}
-
--- The k-th command of words.
-abbrev pub commandAt : List ℕ → ℕ → List ℕ
-commandAt ws k = take 9 (drop (9 * k) ws)
 
 -- one more command behind others
 more : (p : Progress) (cs : List (List ℕ)) (q : Progress) (c : List ℕ) → Follow p cs q → length c ≡ 9 → wordAt c 0 ≡ macroblockHeader
@@ -47,12 +46,11 @@ flatten-more [] c = append-nil c
 flatten-more (d ∷ ds) c = ap (λ (x : List ℕ). d ++ x) (flatten-more ds c) ∙ sym (append-assoc d (flatten ds) c)
 
 -- The progress after k commands from the first column on.
-abbrev pub Reached : Progress → List ℕ → ℕ → Extent → Extent → Progress → Type 0
-Reached p ws k f b q =
-    ((k ≡ 0) × (q ≡ p) × (f ≡ p .extents .forward) × (b ≡ p .extents .backward))
-    ⊎ ((j : ℕ) × (k ≡ j + 1) × (q ≡ afterRow p (p .position .column + j) f b (commandAt ws j)))
+abbrev pub Reached : Progress → List ℕ → ℕ → Progress → Type 0
+Reached p ws k q =
+    ((k ≡ 0) × (q ≡ p)) ⊎ ((j : ℕ) × (k ≡ j + 1) × (q ≡ afterRow p (p .position .column + j) (forwardAfter p ws k) (backwardAfter p ws k) (commandAt ws j)))
 
-pub record Going (p : Progress) (ws : List ℕ) (column : ℕ) (f b : Extent) (at : ℕ) : Type 0 where
+pub record Going (p : Progress) (ws : List ℕ) (column f b at : ℕ) : Type 0 where
   pub k : ℕ
   pub column-is : column ≡ p .position .column + k
   pub at-is : at ≡ 9 * k
@@ -60,7 +58,8 @@ pub record Going (p : Progress) (ws : List ℕ) (column : ℕ) (f b : Extent) (a
   pub cs : List (List ℕ)
   pub words-are : flatten cs ≡ take at ws
   pub follow : Follow p cs q
-  pub reached : Reached p ws k f b q
+  pub reached : Reached p ws k q
+  pub seen : Seen p ws k f b
 
 -- The bound bits that are due in the next command, and where the last one begins.
 abbrev pub Due : Progress → List ℕ → ℕ → ℕ → ℕ → Type 0
@@ -70,7 +69,7 @@ Due p ws k due was =
     × (due ≡ dueBits (isSet (bits (wordAt (commandAt ws j) 4) 31 31)) false))
 
 -- before the first command
-unfoldable pub fresh-row : (p : Progress) (ws : List ℕ) → Going p ws (p .position .column) (p .extents .forward) (p .extents .backward) 0
+unfoldable pub fresh-row : (p : Progress) (ws : List ℕ) → Going p ws (p .position .column) (p .extents .forward .end) (p .extents .backward .end) 0
 unfolding flatten
 fresh-row p ws =
     record {
@@ -81,18 +80,22 @@ fresh-row p ws =
       cs = [];
       words-are = refl;
       follow = refl;
-      reached = inl (refl, refl, refl, refl);
+      reached = inl (refl, refl);
+      seen = record { forward-end = refl; backward-end = refl; forward-fit = λ k h u. absurd (omega arith); backward-fit = λ k h u. absurd (omega arith) };
     }
 
-module _ (p : Progress) (ws : List ℕ) (column due was at : ℕ) (f b : Extent) (row : OpenRow p) (left : column < p .picture .grid .columns) where
+module _ (p : Progress) (ws : List ℕ) (column due was at f b : ℕ) (row : OpenRow p) (left : column < p .picture .grid .columns) where
   before : List ℕ
   before = take (at - was) (drop was ws)
 
-  stands-first : (q : Progress) → column ≡ p .position .column → at ≡ 0 → was ≡ 0 → due ≡ dueBits (not (p .stage .«in_slice»)) (p .stage .«group_start»)
-      → q ≡ p → f ≡ p .extents .forward → b ≡ p .extents .backward → Stands p column due f b before q
+  abbrev StandsAt : ℕ → Progress → Type 0
+  StandsAt k q = Stands p column due (forwardAfter p ws k) (backwardAfter p ws k) before q
+
+  stands-first : (q : Progress) (k : ℕ) → k ≡ 0 → column ≡ p .position .column → at ≡ 0 → was ≡ 0
+      → due ≡ dueBits (not (p .stage .«in_slice»)) (p .stage .«group_start») → q ≡ p → StandsAt k q
   unfolding before
-  stands-first q ec ea ew ed eq ef eb =
-      subst (Stands p column due f b before) (sym eq)
+  stands-first q k z ec ea ew ed eq =
+      subst (StandsAt k) (sym eq)
       (record {
         open-group = row .open-group;
         due-is = ed;
@@ -101,20 +104,22 @@ module _ (p : Progress) (ws : List ℕ) (column due was at : ℕ) (f b : Extent)
         here = ap (λ (x : ℕ). placeIn p x) (sym ec);
         in-columns = left;
         in-rows = row .in-rows;
-        by-chroma = row .by-chroma;
         previous-is = λ n. absurd (n (length-take (at - was) (drop was ws) ∙ omega arith));
         stage-next = λ fl. refl;
-        source-next = refl;
-        reconstructed-next = refl;
-        forward-is = sym ef;
-        backward-is = sym eb;
+        source-next = ap (joined (p .extents .source)) own;
+        reconstructed-next = ap (joined (p .extents .reconstructed)) own;
+        forward-is = ap (λ (n : ℕ). forwardAfter p ws n) (sym z);
+        backward-is = ap (λ (n : ℕ). backwardAfter p ws n) (sym z);
       })
+    where
+      own : reachIn p column 0 ≡ ownIn p column
+      own = ap (λ (x : ℕ). between (reachIn p x 0 .first) (reachIn p column 0 .end)) ec
 
-  stands-later : (q : Progress) (m j : ℕ) → column ≡ m + 1 → at ≡ 9 * (j + 1) → was ≡ 9 * j → bits (wordAt (commandAt ws j) 4) 26 26 ≡ 0
-      → due ≡ dueBits (isSet (bits (wordAt (commandAt ws j) 4) 31 31)) false → q ≡ afterRow p m f b (commandAt ws j) → Stands p column due f b before q
+  stands-later : (q : Progress) (k m i j : ℕ) → m ≡ p .position .column + i → column ≡ m + 1 → at ≡ 9 * (j + 1) → was ≡ 9 * j → bits (wordAt (commandAt ws j) 4) 26 26 ≡ 0
+      → due ≡ dueBits (isSet (bits (wordAt (commandAt ws j) 4) 31 31)) false → q ≡ afterRow p m (forwardAfter p ws k) (backwardAfter p ws k) (commandAt ws j) → StandsAt k q
   unfolding before afterRow stageAfter positionAfter
-  stands-later q m j ec ea ew eg ed eq =
-      subst (Stands p column due f b before) (sym eq)
+  stands-later q k m i j em ec ea ew eg ed eq =
+      subst (StandsAt k) (sym eq)
       (record {
         open-group = ap (λ (x : ℕ). not (isSet x)) eg;
         due-is = ed ∙ ap (λ (x : Bool). dueBits x false) (sym (twice (isSet (bits (wordAt (commandAt ws j) 4) 31 31))));
@@ -123,7 +128,6 @@ module _ (p : Progress) (ws : List ℕ) (column due was at : ℕ) (f b : Extent)
         here = place;
         in-columns = left;
         in-rows = row .in-rows;
-        by-chroma = row .by-chroma;
         previous-is = λ n. let nine : at - was ≡ 9 = omega arith in ap previousIn (same-part ws (sym nine) (sym ew));
         stage-next = λ fl. refl;
         source-next = own (p .extents .source);
@@ -136,42 +140,53 @@ module _ (p : Progress) (ws : List ℕ) (column due was at : ℕ) (f b : Extent)
       twice true = refl
       twice false = refl
 
-      place : afterRow p m f b (commandAt ws j) .position ≡ placeIn p column
+      place : afterRow p m (forwardAfter p ws k) (backwardAfter p ws k) (commandAt ws j) .position ≡ placeIn p column
       place =
           let next : m + 1 < p .picture .grid .columns = omega arith in
           simp (lt-ltb (p .position .row) (p .picture .grid .rows) (row .in-rows), lt-ltb (m + 1) (p .picture .grid .columns) next, ec)
 
-      own : (e : Extent) → joined (joined e (reachIn p m 0)) (reachIn p column 0) ≡ joined e (reachIn p column 0)
+      own : (e : Extent) → joined (joined e (ownIn p m)) (reachIn p column 0) ≡ joined e (ownIn p column)
       own e =
-          join-assoc e (reachIn p m 0) (reachIn p column 0)
-          ∙ ap (joined e)
-          (subst (λ (x : ℕ). joined (reachIn p m 0) (reachIn p x 0) ≡ reachIn p x 0) (sym ec) (reach-grows (p .frame .surface) m (p .position .row)))
+          join-assoc e (ownIn p m) (reachIn p column 0)
+          ∙ ap (joined e) (own-along (p .frame .surface) (p .position .column) m column (p .position .row) (row .wide) (omega arith) (omega arith))
 
-  stands : (g : Going p ws column f b at) → Due p ws (g .k) due was → Stands p column due f b before (g .q)
+  stands : (g : Going p ws column f b at) → Due p ws (g .k) due was → StandsAt (g .k) (g .q)
   stands g d = by (g .reached) d
     where
-      by : Reached p ws (g .k) f b (g .q) → Due p ws (g .k) due was → Stands p column due f b before (g .q)
-      by (inl (z, eq, ef, eb)) (inl (_, ew, ed)) =
-          stands-first (g .q) (g .column-is ∙ ap (λ (x : ℕ). p .position .column + x) z ∙ add-zero (p .position .column)) (g .at-is ∙ ap (λ (x : ℕ). 9 * x) z) ew ed eq ef eb
-      by (inl (z, _, _, _)) (inr (j, e, _, _, _)) = absurd (omega arith)
+      by : Reached p ws (g .k) (g .q) → Due p ws (g .k) due was → StandsAt (g .k) (g .q)
+      by (inl (z, eq)) (inl (_, ew, ed)) =
+          stands-first (g .q) (g .k) z (g .column-is ∙ ap (λ (x : ℕ). p .position .column + x) z ∙ add-zero (p .position .column)) (g .at-is ∙ ap (λ (x : ℕ). 9 * x) z) ew ed eq
+      by (inl (z, _)) (inr (j, e, _, _, _)) = absurd (omega arith)
       by (inr (j, e, _)) (inl (z, _, _)) = absurd (omega arith)
       by (inr (i, ei, eq)) (inr (j, e, ew, eg, ed)) =
           let same : i ≡ j = omega arith in
-          stands-later (g .q) (p .position .column + i) j
+          stands-later (g .q) (g .k) (p .position .column + i) i j refl
           (g .column-is ∙ ap (λ (x : ℕ). p .position .column + x) ei ∙ sym (add-assoc (p .position .column) i 1))
-          (g .at-is ∙ ap (λ (x : ℕ). 9 * x) e) ew eg ed (eq ∙ ap (λ (x : ℕ). afterRow p (p .position .column + i) f b (commandAt ws x)) same)
+          (g .at-is ∙ ap (λ (x : ℕ). 9 * x) e) ew eg ed (eq ∙ ap (λ (x : ℕ). afterRow p (p .position .column + i) (forwardAfter p ws (g .k)) (backwardAfter p ws (g .k)) (commandAt ws x)) same)
+
+  -- What one more command touches of a reference, by the words of the whole row.
+  touched-more : (alone word k : ℕ) (e : Extent) (c : List ℕ) → c ≡ commandAt ws k → column ≡ p .position .column + k
+      → joined (touchedAfter alone word (p .frame .surface) (p .position) ws k e) (cond (usesVector alone (wordAt c 1)) (reachIn p column (wordAt c word)) emptyExtent)
+      ≡ touchedAfter alone word (p .frame .surface) (p .position) ws (k + 1) e
+  touched-more alone word k e c there ec =
+      ap (joined (touchedAfter alone word (p .frame .surface) (p .position) ws k e))
+      (ap₂ (λ (x : List ℕ) (y : ℕ). cond (usesVector alone (wordAt x 1)) (reachIn p y (wordAt x word)) emptyExtent) there ec)
+      ∙ sym (after-next alone word (p .frame .surface) (p .position) ws k e)
 
   -- Behind one more command that is taken.
-  pub go-on : (g : Going p ws column f b at) → Due p ws (g .k) due was → (f′ b′ : Extent) → at + 9 ≤ length ws
+  pub go-on : (g : Going p ws column f b at) → Due p ws (g .k) due was → (f′ b′ : ℕ) → at + 9 ≤ length ws
       → Found p column f b (take (at + 9 - at) (drop at ws)) due (take (at - was) (drop was ws)) f′ b′ → Going p ws (column + 1) f′ b′ (at + 9)
-  unfolding before
+  unfolding before linesOf
   go-on g d f′ b′ room found =
       let c = take (at + 9 - at) (drop at ws) in
       let s = stands g d in
-      let j = found-joins p (g .q) column due f b before c s f′ b′ found in
+      let ends = subst₂ (λ (x y : ℕ). Found p column x y c due before f′ b′) (g .seen .forward-end) (g .seen .backward-end) found in
+      let comes = found-comes p (g .q) column due (forwardAfter p ws (g .k)) (backwardAfter p ws (g .k)) before c s f′ b′ ends in
       let nine : at + 9 - at ≡ 9 = omega arith in
       let there : c ≡ commandAt ws (g .k) = same-part ws nine (g .at-is) in
       let long : length c ≡ 9 = length-take (at + 9 - at) (drop at ws) ∙ omega (arith, length-drop at ws) in
+      let forward = touched-more 0x100 5 (g .k) (p .extents .forward) c there (g .column-is) in
+      let backward = touched-more 0x200 6 (g .k) (p .extents .backward) c there (g .column-is) in
       record {
         k = g .k + 1;
         column-is = ap (λ (x : ℕ). x + 1) (g .column-is) ∙ add-assoc (p .position .column) (g .k) 1;
@@ -183,19 +198,31 @@ module _ (p : Progress) (ws : List ℕ) (column due was at : ℕ) (f b : Extent)
             ∙ ap (λ (x : List ℕ). x ++ c) (g .words-are)
             ∙ ap (λ (x : ℕ). take at ws ++ take x (drop at ws)) nine
             ∙ sym (take-add at 9 ws);
-        follow = more p (g .cs) (g .q) c (g .follow) long (found .header) (accepted (g .q) c (j .keeps));
+        follow = more p (g .cs) (g .q) c (g .follow) long (found .header) (accepted (g .q) c (comes .joins .keeps));
         reached =
             inr (
               g .k,
               refl,
-              next-is p (g .q) column due f b before c s f′ b′ j
-                  ∙ ap₂ (λ (x : ℕ) (y : List ℕ). afterRow p x f′ b′ y) (g .column-is) there,
+              next-is p (g .q) column due (forwardAfter p ws (g .k)) (backwardAfter p ws (g .k)) before c s _ _ (comes .joins)
+                  ∙ ap₂ (λ (x y : Extent). afterRow p column x y c) forward backward
+                  ∙ ap₂ (λ (x : ℕ) (y : List ℕ). afterRow p x (forwardAfter p ws (g .k + 1)) (backwardAfter p ws (g .k + 1)) y) (g .column-is) there,
             );
+        seen =
+            record {
+              forward-end = comes .forward-end ∙ ap (λ (x : Extent). x .end) forward;
+              backward-end = comes .backward-end ∙ ap (λ (x : Extent). x .end) backward;
+              forward-fit =
+                  fit-more 0x100 5 (p .frame .surface) (p .position) ws (lineOf (p .picture .grid .columns) (p .picture .forward .x)) (lineOf (p .picture .grid .rows) (p .picture .forward .y)) (g .k) (g .seen .forward-fit)
+                  (subst₂ (λ (x : List ℕ) (y : ℕ). usesVector 0x100 (wordAt x 1) ≡ true → ForwardFits p y (wordAt x 5)) there (g .column-is) (comes .forward-fits));
+              backward-fit =
+                  fit-more 0x200 6 (p .frame .surface) (p .position) ws (lineOf (p .picture .grid .columns) (p .picture .backward .x)) (lineOf (p .picture .grid .rows) (p .picture .backward .y)) (g .k) (g .seen .backward-fit)
+                  (subst₂ (λ (x : List ℕ) (y : ℕ). usesVector 0x200 (wordAt x 1) ≡ true → BackwardFits p y (wordAt x 6)) there (g .column-is) (comes .backward-fits));
+            };
       }
 
 -- The count of commands goes up with each.
-pub count-on : (p : Progress) (ws : List ℕ) (column due was at : ℕ) (f b : Extent) (row : OpenRow p) (left : column < p .picture .grid .columns)
-    (g : Going p ws column f b at) (d : Due p ws (g .k) due was) (f′ b′ : Extent) (room : at + 9 ≤ length ws)
+pub count-on : (p : Progress) (ws : List ℕ) (column due was at f b : ℕ) (row : OpenRow p) (left : column < p .picture .grid .columns)
+    (g : Going p ws column f b at) (d : Due p ws (g .k) due was) (f′ b′ : ℕ) (room : at + 9 ≤ length ws)
     (found : Found p column f b (take (at + 9 - at) (drop at ws)) due (take (at - was) (drop was ws)) f′ b′)
     → (four due′ : ℕ) → four ≡ wordAt ws (at + 4) → bits four 26 26 ≡ 0 → due′ ≡ dueBits (isSet (bits four 31 31)) false
     → Due p ws (go-on p ws column due was at f b row left g d f′ b′ room found .k) due′ at
@@ -209,8 +236,7 @@ count-on p ws column due was at f b row left g d f′ b′ room found four due�
         sym (getD-take 9 (drop (9 * g .k) ws) 4 0 (omega arith) ∙ getD-drop (9 * g .k) ws 4 0 ∙ ap (λ (x : ℕ). wordAt ws (x + 4)) (sym (g .at-is)))
 
 -- What is taken in the end.
-pub taken-from : (p : Progress) (ws : List ℕ) (column at : ℕ) (f b : Extent) (r : Taken) → at ≤ length ws → Going p ws column f b at
-    → AfterRow p column at f b ws r → TakenFrom p ws r
+pub taken-from : (p : Progress) (ws : List ℕ) (column at f b : ℕ) (r : Taken) → at ≤ length ws → Going p ws column f b at → AfterRow p column at ws r → TakenFrom p ws r
 taken-from p ws column at f b r room g a =
     record {
       within = omega (arith, a .used-is);
@@ -219,17 +245,21 @@ taken-from p ws column at f b r room g a =
       follow = subst (Follow p (g .cs)) (ends (g .reached)) (g .follow);
     }
   where
-    ends : Reached p ws (g .k) f b (g .q) → g .q ≡ r .progress
-    ends (inl (z, e, _, _)) = e ∙ sym (a .none (omega (arith, g .at-is)))
+    ends : Reached p ws (g .k) (g .q) → g .q ≡ r .progress
+    ends (inl (z, e)) = e ∙ sym (a .none (omega (arith, g .at-is)))
     ends (inr (j, e, eq)) =
         let some : 1 ≤ at = omega (arith, g .at-is) in
         let last : column - 1 ≡ p .position .column + j = omega (arith, g .column-is) in
         let nine : at - (at - 9) ≡ 9 = omega (arith, g .at-is) in
         let start : at - 9 ≡ 9 * j = omega (arith, g .at-is) in
-        eq ∙ ap₂ (λ (x : ℕ) (y : List ℕ). afterRow p x f b y) (sym last) (sym (same-part ws nine start)) ∙ sym (a .some some)
+        let count : at / 9 ≡ g .k = omega (arith, g .at-is) in
+        eq
+        ∙ ap (λ (n : ℕ). afterRow p (p .position .column + j) (forwardAfter p ws n) (backwardAfter p ws n) (commandAt ws j)) (sym count)
+        ∙ ap₂ (λ (x : ℕ) (y : List ℕ). afterRow p x (forwardAfter p ws (at / 9)) (backwardAfter p ws (at / 9)) y) (sym last) (sym (same-part ws nine start))
+        ∙ sym (a .some some)
 
 -- What the loop keeps.
-pub record Row (p : Progress) (ws : List ℕ) (limit column due : ℕ) (f b : Extent) (was at : ℕ) : Type 0 where
+pub record Row (p : Progress) (ws : List ℕ) (limit column due f b was at : ℕ) : Type 0 where
   pub within : column ≤ limit
   pub behind : was ≤ at
   pub room : at ≤ length ws

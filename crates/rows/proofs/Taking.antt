@@ -1,23 +1,24 @@
 -- One command of a row: it keeps its rules, and the progress after it.
-use mathlib.Core.Bool.{Bool, true, false, _&&_, _||_}
+use mathlib.Core.Bool.{Bool, true, false, cond, _&&_, _||_}
 use mathlib.Core.List.{List, [], _∷_}
 use mathlib.Core.Logic.{_⊎_, inl, inr}
 use mathlib.Core.Path.{_≡_, refl, sym, ap, ap₂, subst, subst₂, _∙_}
-use Prim.Native.Nat.{ℕ, _+_, _-_, _<_}
+use Prim.Native.Nat.{ℕ, _+_, _-_, _<_, max}
 use native.Mathlib.Omega.{arith}
 use lib.Dec.{eqb}
 use lib.ListN.{length}
 use Rattle.lists.proofs.Booleans.{no}
 use Rattle.prediction.specs.Blocks.{blockAt}
 use Rattle.prediction.specs.Extents.{emptyExtent, joined}
-use Rattle.prediction.specs.Lines.{lineOf, vectorInLines, chromaHighest}
+use Rattle.prediction.specs.Lines.{lineOf, vectorInLines}
 use Rattle.prediction.specs.Ranges.{vectorInRange}
 use Rattle.prediction.specs.Vectors.{vectorOf, still}
 use Rattle.prediction.specs.declared.Block.the-variants.{Inside}
 use Rattle.prediction.specs.declared.Extent.{Extent}
 use Rattle.prediction.specs.declared.Position.{Position}
 use Rattle.prediction.proofs.LineLaws.{in-lines, still-reach}
-use Rattle.prediction.proofs.ExtentLaws.{join-empty}
+use Rattle.prediction.proofs.ExtentLaws.{empty-end, join-end, join-empty}
+use Rattle.fields.specs.Word.{withBits}
 use Rattle.headers.specs.Words.{wordAt}
 use Rattle.macroblock.specs.Cases.{motion, motionOf, caseOf, vectorWords}
 use Rattle.macroblock.specs.Macroblocks.{flagsIn, macroblockOf}
@@ -33,6 +34,7 @@ use Rattle.placement.specs.Placing.{codingPermits}
 use Rattle.placement.specs.Progressing.{positionAfter, previousOf, extentsAfter, progressAfter, macroblockNext}
 use Rattle.rows.specs.Rows.{afterRow, previousIn}
 use Rattle.rows.specs.Steps.{linesOf, isPredicted, typeIn, placeIn, reachIn, ForwardFits, BackwardFits, ForwardFound, BackwardFound, BothFound, IntraFound, Found}
+use Rattle.rows.specs.Touching.{usesVector}
 use Rattle.rows.specs.Words.{lowHalf, FlagsKept, IntraKept, InterKept}
 use Rattle.rows.proofs.Keeping.{AtPlace, at-place, Typed, typed-intra, typed-inter, keeps-intra, OfKind, keeps-inter}
 use Rattle.rows.specs.Keeping.{Joins, Stands}
@@ -56,12 +58,11 @@ pub record Fits (q : Progress) (codes : Codes) (w : ℕ) (e : Extent) : Type 0 w
   pub block : blockAt (q .frame .surface) (q .picture .grid) (q .position) (vectorOf w) ≡ Inside e
 
 fits : (p q : Progress) (column w : ℕ) (codes : Codes) → column < p .picture .grid .columns → p .position .row < p .picture .grid .rows
-    → chromaHighest (p .frame .surface) (p .picture .grid .rows) ≡ true
     → q .frame ≡ p .frame → q .picture ≡ p .picture → q .position ≡ placeIn p column
     → vectorInLines (lineOf (p .picture .grid .columns) (codes .x)) (lineOf (p .picture .grid .rows) (codes .y)) column (p .position .row) w ≡ true
     → Fits q codes w (reachIn p column w)
-fits p q column w codes hc hr h ef ep at e =
-    let two = in-lines (p .frame .surface) (p .picture .grid) (placeIn p column) (codes .x) (codes .y) w (omega arith) (omega arith) h e in
+fits p q column w codes hc hr ef ep at e =
+    let two = in-lines (p .frame .surface) (p .picture .grid) (placeIn p column) (codes .x) (codes .y) w (omega arith) (omega arith) e in
     record {
       range = two .0;
       block =
@@ -168,9 +169,12 @@ module _ (q : Progress) (ws : List ℕ) (placed : AtPlace q ws) where
         (ap extentIn (fit .block))
         (ap extentIn (fit′ .block))
 
--- What the tests find of a command is true of it where the batch stands.
+-- What the tests find of a command is true of it where the batch stands. `f` and `b` are what is touched of the references before it.
 module _ (p q : Progress) (column due : ℕ) (f b : Extent) (before ws : List ℕ) (s : Stands p column due f b before q) where
-  found-place : (f′ b′ : Extent) → Found p column f b ws due before f′ b′ → AtPlace q ws
+  abbrev FoundTo : ℕ → ℕ → Type 0
+  FoundTo f′ b′ = Found p column (f .end) (b .end) ws due before f′ b′
+
+  found-place : (f′ b′ : ℕ) → FoundTo f′ b′ → AtPlace q ws
   found-place f′ b′ h =
       at-place q ws column (p .position .row) due (s .open-group) (s .here)
       (subst (λ (x : Picture). p .position .row < x .grid .rows) (sym (s .same-picture)) (s .in-rows))
@@ -181,23 +185,51 @@ module _ (p q : Progress) (column due : ℕ) (f b : Extent) (before ws : List �
   unfolding linesOf
   fits-forward w e =
       subst (λ (x : Picture). Fits q (x .forward) w (reachIn p column w)) (sym (s .same-picture))
-      (fits p q column w (p .picture .forward) (s .in-columns) (s .in-rows) (s .by-chroma) (s .same-frame) (s .same-picture) (s .here) e)
+      (fits p q column w (p .picture .forward) (s .in-columns) (s .in-rows) (s .same-frame) (s .same-picture) (s .here) e)
 
   fits-backward : (w : ℕ) → BackwardFits p column w → Fits q (q .picture .backward) w (reachIn p column w)
   unfolding linesOf
   fits-backward w e =
       subst (λ (x : Picture). Fits q (x .backward) w (reachIn p column w)) (sym (s .same-picture))
-      (fits p q column w (p .picture .backward) (s .in-columns) (s .in-rows) (s .by-chroma) (s .same-frame) (s .same-picture) (s .here) e)
+      (fits p q column w (p .picture .backward) (s .in-columns) (s .in-rows) (s .same-frame) (s .same-picture) (s .here) e)
 
   coding-is : (P : ℕ → Type 0) → P (p .picture .coding) → P (q .picture .coding)
   coding-is P h = subst (λ (x : Picture). P (x .coding)) (sym (s .same-picture)) h
 
-  -- the extents by which a command is joined, in the names of the row
-  renamed : {e h e′ h′ : Extent} → e ≡ e′ → h ≡ h′ → Joins q ws e h → Joins q ws e′ h′
-  renamed e h j = subst₂ (Joins q ws) e h j
+  -- what a command touches of a reference, in the names of the row: its reach if its type has a vector to it, else nothing
+  abbrev forwardBy : Extent
+  forwardBy = cond (usesVector 0x100 (wordAt ws 1)) (reachIn p column (wordAt ws 5)) emptyExtent
 
-  pub found-joins : (f′ b′ : Extent) → Found p column f b ws due before f′ b′ → Joins q ws f′ b′
-  found-joins f′ b′ h = by (h .coded)
+  abbrev backwardBy : Extent
+  backwardBy = cond (usesVector 0x200 (wordAt ws 1)) (reachIn p column (wordAt ws 6)) emptyExtent
+
+  by-type : (alone type : ℕ) (r : Extent) → typeIn ws ≡ type → cond (usesVector alone (wordAt ws 1)) r emptyExtent ≡ cond (eqb type alone || eqb type 0x300) r emptyExtent
+  by-type alone type r e = ap (λ (x : ℕ). cond (eqb x alone || eqb x 0x300) r emptyExtent) e
+
+  -- What the tests found of a command: its rules hold, and both references are joined with what it touches, whose ends were found.
+  pub record Comes (f′ b′ : ℕ) : Type 0 where
+    pub joins : Joins q ws (joined f forwardBy) (joined b backwardBy)
+    pub forward-end : f′ ≡ joined f forwardBy .end
+    pub backward-end : b′ ≡ joined b backwardBy .end
+    pub forward-fits : usesVector 0x100 (wordAt ws 1) ≡ true → ForwardFits p column (wordAt ws 5)
+    pub backward-fits : usesVector 0x200 (wordAt ws 1) ≡ true → BackwardFits p column (wordAt ws 6)
+
+  -- from what each kind touches
+  comes : {f′ b′ : ℕ} (e h : Extent) → forwardBy ≡ e → backwardBy ≡ h → Joins q ws (joined (q .extents .forward) e) (joined (q .extents .backward) h)
+      → f′ ≡ max (f .end) (e .end) → b′ ≡ max (b .end) (h .end)
+      → (usesVector 0x100 (wordAt ws 1) ≡ true → ForwardFits p column (wordAt ws 5)) → (usesVector 0x200 (wordAt ws 1) ≡ true → BackwardFits p column (wordAt ws 6))
+      → Comes f′ b′
+  comes e h ee eh j ef eb uf ub =
+      record {
+        joins = subst₂ (Joins q ws) (ap₂ joined (s .forward-is) (sym ee)) (ap₂ joined (s .backward-is) (sym eh)) j;
+        forward-end = ef ∙ sym (join-end f e) ∙ ap (λ (x : Extent). joined f x .end) (sym ee);
+        backward-end = eb ∙ sym (join-end b h) ∙ ap (λ (x : Extent). joined b x .end) (sym eh);
+        forward-fits = uf;
+        backward-fits = ub;
+      }
+
+  pub found-comes : (f′ b′ : ℕ) → FoundTo f′ b′ → Comes f′ b′
+  found-comes f′ b′ h = by (h .coded)
     where
       placed : AtPlace q ws
       placed = found-place f′ b′ h
@@ -214,34 +246,44 @@ module _ (p q : Progress) (column due : ℕ) (f b : Extent) (before ws : List �
       kept : InterKept (p .picture .coding) before ws → InterKept (q .picture .coding) before ws
       kept k = coding-is (λ (x : ℕ). InterKept x before ws) k
 
-      same-forward : (e : Extent) → joined f e ≡ joined (q .extents .forward) e
-      same-forward e = ap (λ (x : Extent). joined x e) (sym (s .forward-is))
+      -- a type without a vector to a reference
+      unused : (alone type : ℕ) → typeIn ws ≡ type → (eqb type alone || eqb type 0x300) ≡ false → usesVector alone (wordAt ws 1) ≡ true → ⊥
+      unused alone type e z u = no (sym (ap (λ (x : ℕ). eqb x alone || eqb x 0x300) e ∙ z) ∙ u)
 
-      same-backward : (e : Extent) → joined b e ≡ joined (q .extents .backward) e
-      same-backward e = ap (λ (x : Extent). joined x e) (sym (s .backward-is))
+      nothing-more : (n : ℕ) → n ≡ max n (emptyExtent .end)
+      nothing-more n = omega (arith, empty-end)
 
       inter : InterKept (p .picture .coding) before ws
-          → ForwardFound p column f b ws f′ b′ ⊎ (BackwardFound p column f b ws f′ b′ ⊎ BothFound p column f b ws f′ b′) → Joins q ws f′ b′
+          → ForwardFound p column (f .end) (b .end) ws f′ b′ ⊎ (BackwardFound p column (f .end) (b .end) ws f′ b′ ⊎ BothFound p column (f .end) (b .end) ws f′ b′) → Comes f′ b′
       inter k (inl x) =
           let predicted : isPredicted (q .picture .coding) ≡ true = coding-is (λ (y : ℕ). isPredicted y ≡ true) (x .coding) in
-          renamed (sym (x .forward-is ∙ same-forward (reachIn p column (wordAt ws 5)))) (join-empty (q .extents .backward) ∙ s .backward-is ∙ sym (x .backward-is))
-          (joins-forward q ws placed before (s .previous-is) (kept k) (not-intra predicted) (reachIn p column (wordAt ws 5)) (x .type) predicted (x .same)
-          (fits-forward (wordAt ws 5) (x .fits)))
+          let five = reachIn p column (wordAt ws 5) in
+          comes five emptyExtent (by-type 0x100 0x100 five (x .type)) (by-type 0x200 0x100 (reachIn p column (wordAt ws 6)) (x .type))
+          (joins-forward q ws placed before (s .previous-is) (kept k) (not-intra predicted) five (x .type) predicted (x .same) (fits-forward (wordAt ws 5) (x .fits)))
+          (x .forward-is) (x .backward-is ∙ nothing-more (b .end)) (λ u. x .fits) (λ u. absurd (unused 0x200 0x100 (x .type) refl u))
       inter k (inr (inl x)) =
-          renamed (join-empty (q .extents .forward) ∙ s .forward-is ∙ sym (x .forward-is)) (sym (x .backward-is ∙ same-backward (reachIn p column (wordAt ws 6))))
-          (joins-backward q ws placed before (s .previous-is) (kept k) (not-one (three (x .coding))) (reachIn p column (wordAt ws 6)) (x .type) (three (x .coding))
-          (x .same) (fits-backward (wordAt ws 6) (x .fits)))
+          let six = reachIn p column (wordAt ws 6) in
+          comes emptyExtent six (by-type 0x100 0x200 (reachIn p column (wordAt ws 5)) (x .type)) (by-type 0x200 0x200 six (x .type))
+          (joins-backward q ws placed before (s .previous-is) (kept k) (not-one (three (x .coding))) six (x .type) (three (x .coding)) (x .same) (fits-backward (wordAt ws 6) (x .fits)))
+          (x .forward-is ∙ nothing-more (f .end)) (x .backward-is) (λ u. absurd (unused 0x100 0x200 (x .type) refl u)) (λ u. x .fits)
       inter k (inr (inr x)) =
-          renamed (sym (x .forward-is ∙ same-forward (reachIn p column (wordAt ws 5)))) (sym (x .backward-is ∙ same-backward (reachIn p column (wordAt ws 6))))
-          (joins-both q ws placed before (s .previous-is) (kept k) (not-one (three (x .coding))) (reachIn p column (wordAt ws 5)) (reachIn p column (wordAt ws 6))
-          (x .type) (three (x .coding)) (fits-forward (wordAt ws 5) (x .forward-fits)) (fits-backward (wordAt ws 6) (x .backward-fits)))
+          let five = reachIn p column (wordAt ws 5) in
+          let six = reachIn p column (wordAt ws 6) in
+          comes five six (by-type 0x100 0x300 five (x .type)) (by-type 0x200 0x300 six (x .type))
+          (joins-both q ws placed before (s .previous-is) (kept k) (not-one (three (x .coding))) five six (x .type) (three (x .coding)) (fits-forward (wordAt ws 5) (x .forward-fits))
+          (fits-backward (wordAt ws 6) (x .backward-fits)))
+          (x .forward-is) (x .backward-is) (λ u. x .forward-fits) (λ u. x .backward-fits)
 
-      by : IntraFound p column f b ws f′ b′
-          ⊎ (InterKept (p .picture .coding) before ws × (ForwardFound p column f b ws f′ b′ ⊎ (BackwardFound p column f b ws f′ b′ ⊎ BothFound p column f b ws f′ b′)))
-          → Joins q ws f′ b′
+      by : IntraFound p column (f .end) (b .end) ws f′ b′
+          ⊎ (InterKept (p .picture .coding) before ws
+          × (ForwardFound p column (f .end) (b .end) ws f′ b′ ⊎ (BackwardFound p column (f .end) (b .end) ws f′ b′ ⊎ BothFound p column (f .end) (b .end) ws f′ b′)))
+          → Comes f′ b′
       by (inl x) =
-          renamed (s .forward-is ∙ sym (x .forward-is)) (s .backward-is ∙ sym (x .backward-is))
-          (joins-intra q ws placed (x .type) (coding-is (λ (y : ℕ). IntraKept y ws) (x .kept)))
+          let type : typeIn ws ≡ 0x3a00 = ap (λ (l : ℕ). withBits l 2 2 0) (x .type) in
+          comes emptyExtent emptyExtent (by-type 0x100 0x3a00 (reachIn p column (wordAt ws 5)) type) (by-type 0x200 0x3a00 (reachIn p column (wordAt ws 6)) type)
+          (subst₂ (Joins q ws) (sym (join-empty (q .extents .forward))) (sym (join-empty (q .extents .backward)))
+          (joins-intra q ws placed (x .type) (coding-is (λ (y : ℕ). IntraKept y ws) (x .kept))))
+          (x .forward-is ∙ nothing-more (f .end)) (x .backward-is ∙ nothing-more (b .end)) (λ u. absurd (unused 0x100 0x3a00 type refl u)) (λ u. absurd (unused 0x200 0x3a00 type refl u))
       by (inr (k, x)) = inter k x
 
   own-is : extentIn (blockAt (q .frame .surface) (q .picture .grid) (q .position) still) ≡ reachIn p column 0
@@ -249,7 +291,7 @@ module _ (p q : Progress) (column due : ℕ) (f b : Extent) (before ws : List �
       ap (λ (x : Frame). extentIn (blockAt (x .surface) (q .picture .grid) (q .position) still)) (s .same-frame)
       ∙ ap (λ (x : Picture). extentIn (blockAt (p .frame .surface) (x .grid) (q .position) still)) (s .same-picture)
       ∙ ap (λ (x : Position). extentIn (blockAt (p .frame .surface) (p .picture .grid) x still)) (s .here)
-      ∙ ap extentIn (still-reach (p .frame .surface) (p .picture .grid) (placeIn p column) (s .in-columns) (s .in-rows) (s .by-chroma))
+      ∙ ap extentIn (still-reach (p .frame .surface) (p .picture .grid) (placeIn p column) (s .in-columns) (s .in-rows))
 
   -- The progress after it.
   pub next-is : (f′ b′ : Extent) → Joins q ws f′ b′ → macroblockNext q ws ≡ afterRow p column f′ b′ ws

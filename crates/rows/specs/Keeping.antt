@@ -13,11 +13,10 @@ use Rattle.placement.specs.Placing.{inSequence, codingPermits, skipPermitted, a
 use Rattle.progress.specs.declared.Progress.{Progress}
 use lib.ListN.{length}
 use Rattle.prediction.specs.Extents.{joined}
-use Rattle.prediction.specs.Lines.{chromaHighest}
 use Rattle.prediction.specs.declared.Extent.{Extent}
 use Rattle.macroblock.specs.declared.Flags.{Flags}
 use Rattle.placement.specs.Progressing.{stageAfter}
-use Rattle.rows.specs.Rows.{previousIn}
+use Rattle.rows.specs.Rows.{previousIn, ownIn}
 use Rattle.rows.specs.Steps.{placeIn, reachIn}
 use Rattle.rows.specs.Words.{dueBits}
 
@@ -62,10 +61,9 @@ pub record Stands (p : Progress) (column due : ℕ) (f b : Extent) (before : Lis
   pub here : q .position ≡ placeIn p column
   pub in-columns : column < p .picture .grid .columns
   pub in-rows : p .position .row < p .picture .grid .rows
-  pub by-chroma : chromaHighest (p .frame .surface) (p .picture .grid .rows) ≡ true
   pub previous-is : (length before ≡ 0 → ⊥) → q .previous ≡ previousIn before
   pub stage-next : (fl : Flags) → stageAfter (q .stage) fl ≡ stageAfter (p .stage) fl
-  pub source-next : joined (q .extents .source) (reachIn p column 0) ≡ joined (p .extents .source) (reachIn p column 0)
-  pub reconstructed-next : joined (q .extents .reconstructed) (reachIn p column 0) ≡ joined (p .extents .reconstructed) (reachIn p column 0)
+  pub source-next : joined (q .extents .source) (reachIn p column 0) ≡ joined (p .extents .source) (ownIn p column)
+  pub reconstructed-next : joined (q .extents .reconstructed) (reachIn p column 0) ≡ joined (p .extents .reconstructed) (ownIn p column)
   pub forward-is : q .extents .forward ≡ f
   pub backward-is : q .extents .backward ≡ b

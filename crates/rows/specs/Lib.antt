@@ -1,4 +1,5 @@
 pub mod Rows
 pub mod Steps
+pub mod Touching
 pub mod Words
 pub mod Keeping

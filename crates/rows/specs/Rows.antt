@@ -1,6 +1,6 @@
 -- Runs of MACROBLOCK commands.
 -- Proved: against the walk, by `turn-row` (crates/batch_code/proofs/RowTurn.antt).
-use Prim.Native.Nat.{ℕ, _-_, _≤_, _<_}
+use Prim.Native.Nat.{ℕ, _-_, _/_, _≤_, _<_}
 use mathlib.Core.Bool.{true}
 use mathlib.Core.List.{List, [], _∷_, flatten}
 use mathlib.Core.Path.{_≡_}
@@ -13,12 +13,12 @@ use Rattle.progress.specs.declared.Progress.{Progress}
 use Rattle.placement.specs.Placing.{macroblockRules}
 use Rattle.macroblock.specs.Macroblocks.{kindIn, flagsIn}
 use Rattle.prediction.specs.Extents.{joined}
-use Rattle.prediction.specs.Lines.{chromaHighest}
 use Rattle.prediction.specs.declared.Extent.{Extent}
 use Rattle.progress.specs.declared.Extents.{Extents}
 use Rattle.progress.specs.declared.Previous.{Previous}
 use Rattle.placement.specs.Progressing.{positionAfter, stageAfter, previousOf, macroblockNext}
 use Rattle.rows.specs.Steps.{placeIn, reachIn}
+use Rattle.rows.specs.Touching.{forwardAfter, backwardAfter}
 use Rattle.rows.specs.declared.Taken.{Taken}
 
 -- From progress `p` to progress `q` by whole MACROBLOCK commands, one behind the other, each of which keeps its rules where it comes.
@@ -38,11 +38,15 @@ pub record TakenFrom (p : Progress) (ws : List ℕ) (r : Taken) : Type 0 where
 abbrev pub previousIn : List ℕ → Previous
 previousIn c = previousOf (kindIn (wordAt c 1)) c
 
+-- A macroblock's own samples, of all from the progress's column to this one: from the first byte of the first to the end of the last.
+abbrev pub ownIn : Progress → ℕ → Extent
+ownIn p column = record { first = reachIn p (p .position .column) 0 .first; end = reachIn p column 0 .end }
+
 abbrev pub extentsNext : Progress → ℕ → Extent → Extent → Extents
 extentsNext p column f b =
     record {
-      source = joined (p .extents .source) (reachIn p column 0);
-      reconstructed = joined (p .extents .reconstructed) (reachIn p column 0);
+      source = joined (p .extents .source) (ownIn p column);
+      reconstructed = joined (p .extents .reconstructed) (ownIn p column);
       forward = f;
       backward = b;
     }
@@ -59,14 +63,14 @@ afterRow p column f b c =
     }
 
 -- What the commands before word `at` come to, of which the last stands before this column: nothing where there is none.
-pub record AfterRow (p : Progress) (column at : ℕ) (f b : Extent) (ws : List ℕ) (r : Taken) : Type 0 where
+pub record AfterRow (p : Progress) (column at : ℕ) (ws : List ℕ) (r : Taken) : Type 0 where
   pub used-is : r .used ≡ at
   pub none : at ≡ 0 → r .progress ≡ p
-  pub some : 1 ≤ at → r .progress ≡ afterRow p (column - 1) f b (take (at - (at - 9)) (drop (at - 9) ws))
+  pub some : 1 ≤ at → r .progress ≡ afterRow p (column - 1) (forwardAfter p ws (at / 9)) (backwardAfter p ws (at / 9)) (take (at - (at - 9)) (drop (at - 9) ws))
 
--- A row that is open: a group is, and a macroblock may come. Blocks of the picture end with their last Cr byte.
+-- A row that is open: a group is, and a macroblock may come; and the surface is wide enough for a strip.
 pub record OpenRow (p : Progress) : Type 0 where
   pub open-group : p .stage .«in_group» ≡ true
   pub in-rows : p .position .row < p .picture .grid .rows
   pub in-columns : p .position .column < p .picture .grid .columns
-  pub by-chroma : chromaHighest (p .frame .surface) (p .picture .grid .rows) ≡ true
+  pub wide : 16 ≤ p .frame .surface .pitch

@@ -1,13 +1,12 @@
 -- What the tests of one MACROBLOCK command find, before its rules are asked; its rules follow from it (proofs/Keeping.antt, proofs/Taking.antt).
 -- Proved: against the rules, by `found-joins` (proofs/Taking.antt).
-use Prim.Native.Nat.{ℕ, _+_}
+use Prim.Native.Nat.{ℕ, _+_, max}
 use mathlib.Core.Bool.{Bool, true, _||_}
 use mathlib.Core.List.{List}
 use mathlib.Core.Logic.{_⊎_}
 use mathlib.Core.Path.{_≡_}
 use lib.Dec.{eqb}
 use Rattle.fields.specs.Word.{bits, withBits}
-use Rattle.prediction.specs.Extents.{joined}
 use Rattle.prediction.specs.Lines.{lineOf, vectorInLines, reachOf}
 use Rattle.prediction.specs.declared.Extent.{Extent}
 use Rattle.prediction.specs.declared.Position.{Position}
@@ -58,33 +57,33 @@ abbrev pub BackwardFits : Progress → ℕ → ℕ → Type 0
 BackwardFits p column w =
     vectorInLines (linesOf (p .picture) .«backward_x») (linesOf (p .picture) .«backward_y») column (p .position .row) w ≡ true
 
--- Each kind: its type, the picture's, its vectors, and what is touched of both references after it.
-module _ (p : Progress) (column : ℕ) (forward backward : Extent) (ws : List ℕ) where
-  pub record ForwardFound (f b : Extent) : Type 0 where
+-- Each kind: its type, the picture's, its vectors, and the ends of what is touched of both references after it.
+module _ (p : Progress) (column forward backward : ℕ) (ws : List ℕ) where
+  pub record ForwardFound (f b : ℕ) : Type 0 where
     pub type : typeIn ws ≡ 0x100
     pub coding : isPredicted (p .picture .coding) ≡ true
     pub same : wordAt ws 5 ≡ wordAt ws 6
     pub fits : ForwardFits p column (wordAt ws 5)
-    pub forward-is : f ≡ joined forward (reachIn p column (wordAt ws 5))
+    pub forward-is : f ≡ max forward (reachIn p column (wordAt ws 5) .end)
     pub backward-is : b ≡ backward
 
-  pub record BackwardFound (f b : Extent) : Type 0 where
+  pub record BackwardFound (f b : ℕ) : Type 0 where
     pub type : typeIn ws ≡ 0x200
     pub coding : p .picture .coding ≡ 3
     pub same : wordAt ws 5 ≡ wordAt ws 6
     pub fits : BackwardFits p column (wordAt ws 6)
     pub forward-is : f ≡ forward
-    pub backward-is : b ≡ joined backward (reachIn p column (wordAt ws 6))
+    pub backward-is : b ≡ max backward (reachIn p column (wordAt ws 6) .end)
 
-  pub record BothFound (f b : Extent) : Type 0 where
+  pub record BothFound (f b : ℕ) : Type 0 where
     pub type : typeIn ws ≡ 0x300
     pub coding : p .picture .coding ≡ 3
     pub forward-fits : ForwardFits p column (wordAt ws 5)
     pub backward-fits : BackwardFits p column (wordAt ws 6)
-    pub forward-is : f ≡ joined forward (reachIn p column (wordAt ws 5))
-    pub backward-is : b ≡ joined backward (reachIn p column (wordAt ws 6))
+    pub forward-is : f ≡ max forward (reachIn p column (wordAt ws 5) .end)
+    pub backward-is : b ≡ max backward (reachIn p column (wordAt ws 6) .end)
 
-  pub record IntraFound (f b : Extent) : Type 0 where
+  pub record IntraFound (f b : ℕ) : Type 0 where
     pub type : lowHalf (wordAt ws 1) ≡ 0x3a00
     pub kept : IntraKept (p .picture .coding) ws
     pub forward-is : f ≡ forward
@@ -106,7 +105,7 @@ module _ (p : Progress) (column : ℕ) (forward backward : Extent) (ws : List �
   ByInter before (Kept f b) = InterKept (p .picture .coding) before ws × (ForwardFound f b ⊎ (BackwardFound f b ⊎ BothFound f b))
   ByInter before Left = Unit {0}
 
-  pub record Found (due : ℕ) (before : List ℕ) (f b : Extent) : Type 0 where
+  pub record Found (due : ℕ) (before : List ℕ) (f b : ℕ) : Type 0 where
     pub header : wordAt ws 0 ≡ macroblockHeader
     pub position : AtWord (wordAt ws 2) column (p .position .row)
     pub flags : FlagsKept (wordAt ws 4) due (eqb (column + 1) (p .picture .grid .columns))

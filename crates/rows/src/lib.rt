@@ -1,6 +1,5 @@
 // The MACROBLOCK commands of one row of the picture, as they are judged at speed. Nothing here is a rule: all of it is proved
 // against the rules of single commands.
-use prediction::Extent;
 use prediction::Line;
 use progress::Progress;
 
@@ -18,8 +17,8 @@ pub struct Lines {
     pub backward_y: Line,
 }
 
-// What one command came to: taken, with what is touched of both references after it, or left.
+// What one command came to: taken, with the ends of what is touched of both references after it, or left.
 pub enum Step {
-    Kept(Extent, Extent),
+    Kept(u64, u64),
     Left,
 }

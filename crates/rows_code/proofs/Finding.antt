@@ -5,7 +5,6 @@ use mathlib.Core.Logic.{inl, inr}
 use mathlib.Core.Path.{_≡_, subst, subst₂}
 use Prim.Native.Nat.{ℕ, _+_}
 use lib.Dec.{eqb}
-use Rattle.prediction.specs.declared.Extent.{Extent}
 use Rattle.headers.specs.Headers.{macroblockHeader}
 use Rattle.headers.specs.Words.{wordAt}
 use Rattle.progress.specs.declared.Progress.{Progress}
@@ -14,7 +13,7 @@ use Rattle.rows.specs.Words.{FlagsKept, InterKept}
 use Rattle.rows.specs.declared.Step.{Step}
 use Rattle.rows.specs.declared.Step.the-variants.{Kept, Left}
 
-module _ (p : Progress) (column : ℕ) (forward backward : Extent) (ws before : List ℕ) where
+module _ (p : Progress) (column forward backward : ℕ) (ws before : List ℕ) where
   module _ (k : InterKept (p .picture .coding) before ws) where
     pub from-forward : (r : Step) → typeIn ws ≡ 0x100 → ByForward p column forward backward ws r → ByInter p column forward backward ws before r
     from-forward (Kept f b) t h = (k, inl (h t))

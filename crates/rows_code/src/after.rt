@@ -11,7 +11,10 @@ fn extents_next(progress: Progress, column: u16, forward: Extent, backward: Exte
     ensures { λ r. ⌜ r ≡ extentsNext progress column forward backward ⌝ }
 {
     let surface = progress.frame.surface;
-    let own = prediction_code::reach_of(surface, column, progress.position.row, 0);
+    let row = progress.position.row;
+    let first = prediction_code::reach_first(surface, progress.position.column, row, 0);
+    let end = prediction_code::reach_end(surface.pitch, surface.chroma_row, column, row, 0);
+    let own = Extent { first, end };
     let source = extents::join(progress.extents.source, own);
     let reconstructed = extents::join(progress.extents.reconstructed, own);
     Extents {

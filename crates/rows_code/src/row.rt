@@ -1,14 +1,16 @@
 // A row of macroblocks.
 use crate::after;
+use crate::looking;
 use crate::stepping;
 use prediction::Extent;
 use progress::Progress;
 use rows::Step;
 use rows::Taken;
 ghost use mathlib.Core.Path.{_≡_};
-ghost use Prim.Native.Nat.{_*_, _-_, _≤_, _<_};
+ghost use Prim.Native.Nat.{ℕ, _+_, _*_, _-_, _/_, _≤_, _<_};
 ghost use lib.ListN.{length};
 ghost use Rattle.rows.specs.Rows.{TakenFrom, AfterRow, OpenRow};
+ghost use Rattle.rows.specs.Touching.{forwardAfter, backwardAfter, Seen};
 ghost use Rattle.rows.specs.Words.{dueBits};
 
 // The bound bits of word 4 of a macroblock: whether a slice and a group begin with it.
@@ -40,24 +42,70 @@ fn limit_of(words: usize, first: u16, columns: u16) -> u16
     columns
 }
 
-// What the commands before word `at` come to, of which the last stands before this column.
+// What is touched of each reference after the commands before word `at`, which touch it up to `end`.
+fn forward_after(progress: Progress, end: u64, at: usize, words: &[u32]) -> Extent
+    requires { ⌜ (at ≤ length (now words)) × (progress .position .column + at / 9 < 65536) × ((b : ℕ) × Seen progress (now words) (at / 9) end b) ⌝ }
+    ensures { λ r. ⌜ r ≡ forwardAfter progress (now (words .entry)) (at / 9) ⌝ }
+{
+    if end == 0 {
+        return progress.extents.forward;
+    }
+    let line = prediction_code::line_of(progress.picture.grid.rows, progress.picture.forward.y);
+    looking::touched_after(
+        progress.frame.surface,
+        progress.position,
+        line,
+        0x100,
+        5,
+        progress.extents.forward,
+        end,
+        at,
+        words,
+    )
+}
+
+fn backward_after(progress: Progress, end: u64, at: usize, words: &[u32]) -> Extent
+    requires { ⌜ (at ≤ length (now words)) × (progress .position .column + at / 9 < 65536) × ((f : ℕ) × Seen progress (now words) (at / 9) f end) ⌝ }
+    ensures { λ r. ⌜ r ≡ backwardAfter progress (now (words .entry)) (at / 9) ⌝ }
+{
+    if end == 0 {
+        return progress.extents.backward;
+    }
+    let line = prediction_code::line_of(progress.picture.grid.rows, progress.picture.backward.y);
+    looking::touched_after(
+        progress.frame.surface,
+        progress.position,
+        line,
+        0x200,
+        6,
+        progress.extents.backward,
+        end,
+        at,
+        words,
+    )
+}
+
+// What the commands before word `at` come to, of which the last stands before this column. `forward` and `backward` are the ends of
+// what they touch of the references.
 fn taken(
     progress: Progress,
     column: u16,
     at: usize,
-    forward: Extent,
-    backward: Extent,
+    forward: u64,
+    backward: u64,
     words: &[u32],
 ) -> Taken
-    requires { ⌜ (at ≤ length (now words)) × (1 ≤ at → (9 ≤ at) × (1 ≤ column)) ⌝ }
-    ensures { λ r. ⌜ AfterRow progress column at forward backward (now (words .entry)) r ⌝ }
+    requires { ⌜ (at ≤ length (now words)) × (progress .position .column + at / 9 < 65536) × (1 ≤ at → (9 ≤ at) × (1 ≤ column)) × Seen progress (now words) (at / 9) forward backward ⌝ }
+    ensures { λ r. ⌜ AfterRow progress column at (now (words .entry)) r ⌝ }
 {
     if at == 0 {
         return Taken { progress, used: 0 };
     }
     let start = at - 9;
     let last = column - 1;
-    let next = after::after_row(progress, last, forward, backward, &words[start..at]);
+    let f = forward_after(progress, forward, at, words);
+    let b = backward_after(progress, backward, at, words);
+    let next = after::after_row(progress, last, f, b, &words[start..at]);
     Taken {
         progress: next,
         used: at,
@@ -74,8 +122,8 @@ fn take_row(progress: Progress, words: &[u32]) -> Taken
     let mut column = progress.position.column;
     let limit = limit_of(words.len(), column, picture.grid.columns);
     let mut due = due_bits(!progress.stage.in_slice, progress.stage.group_start);
-    let mut forward = progress.extents.forward;
-    let mut backward = progress.extents.backward;
+    let mut forward = progress.extents.forward.end;
+    let mut backward = progress.extents.backward.end;
     let mut was = 0;
     let mut at = 0;
     while column < limit {
@@ -108,22 +156,15 @@ fn take_row(progress: Progress, words: &[u32]) -> Taken
 }
 
 // Takes MACROBLOCK commands that stand one behind the other, up to the end of the row or of the group, as far as they keep their
-// rules. How many are taken is left to this function: none may be, and none are where a block's highest byte can be a luma byte.
+// rules. How many are taken is left to this function: none may be, and none are on a surface too narrow for a strip.
 pub fn judge_row(progress: Progress, words: &[u32]) -> Taken
     ensures { λ r. ⌜ TakenFrom progress (now (words .entry)) r ⌝ }
 {
     let grid = progress.picture.grid;
     let position = progress.position;
-    if !progress.stage.in_group {
-        return Taken { progress, used: 0 };
-    }
-    if grid.rows <= position.row {
-        return Taken { progress, used: 0 };
-    }
-    if grid.columns <= position.column {
-        return Taken { progress, used: 0 };
-    }
-    if !prediction_code::chroma_highest(progress.frame.surface, grid.rows) {
+    let open = progress.stage.in_group & (position.row < grid.rows);
+    let room = (position.column < grid.columns) & (16 <= progress.frame.surface.pitch);
+    if !(open & room) {
         return Taken { progress, used: 0 };
     }
     take_row(progress, words)

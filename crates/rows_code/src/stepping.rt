@@ -1,7 +1,6 @@
 // One MACROBLOCK command of a row.
 use crate::words;
 use picture::Picture;
-use prediction::Extent;
 use prediction_code::extents;
 use progress::Progress;
 use rows::Lines;
@@ -43,8 +42,8 @@ fn judge_forward(
     progress: Progress,
     lines: Lines,
     column: u16,
-    forward: Extent,
-    backward: Extent,
+    forward: u64,
+    backward: u64,
     words: &[u32],
 ) -> Step
     requires { ⌜ lines ≡ linesOf (progress .picture) ⌝ }
@@ -65,9 +64,9 @@ fn judge_forward(
     if !prediction_code::vector_in_lines(x, y, column, row, five) {
         return Step::Left;
     }
-    let next = extents::join(
+    let next = extents::join_ends(
         forward,
-        prediction_code::reach_of(surface, column, row, five),
+        prediction_code::reach_end(surface.pitch, surface.chroma_row, column, row, five),
     );
     Step::Kept(next, backward)
 }
@@ -77,8 +76,8 @@ fn judge_backward(
     progress: Progress,
     lines: Lines,
     column: u16,
-    forward: Extent,
-    backward: Extent,
+    forward: u64,
+    backward: u64,
     words: &[u32],
 ) -> Step
     requires { ⌜ lines ≡ linesOf (progress .picture) ⌝ }
@@ -99,9 +98,9 @@ fn judge_backward(
     if !prediction_code::vector_in_lines(x, y, column, row, six) {
         return Step::Left;
     }
-    let next = extents::join(
+    let next = extents::join_ends(
         backward,
-        prediction_code::reach_of(surface, column, row, six),
+        prediction_code::reach_end(surface.pitch, surface.chroma_row, column, row, six),
     );
     Step::Kept(forward, next)
 }
@@ -111,8 +110,8 @@ fn judge_both(
     progress: Progress,
     lines: Lines,
     column: u16,
-    forward: Extent,
-    backward: Extent,
+    forward: u64,
+    backward: u64,
     words: &[u32],
 ) -> Step
     requires { ⌜ lines ≡ linesOf (progress .picture) ⌝ }
@@ -136,13 +135,13 @@ fn judge_both(
     if !prediction_code::vector_in_lines(back_x, back_y, column, row, six) {
         return Step::Left;
     }
-    let first = extents::join(
+    let first = extents::join_ends(
         forward,
-        prediction_code::reach_of(surface, column, row, five),
+        prediction_code::reach_end(surface.pitch, surface.chroma_row, column, row, five),
     );
-    let second = extents::join(
+    let second = extents::join_ends(
         backward,
-        prediction_code::reach_of(surface, column, row, six),
+        prediction_code::reach_end(surface.pitch, surface.chroma_row, column, row, six),
     );
     Step::Kept(first, second)
 }
@@ -152,8 +151,8 @@ fn judge_inter(
     progress: Progress,
     lines: Lines,
     column: u16,
-    forward: Extent,
-    backward: Extent,
+    forward: u64,
+    backward: u64,
     low: u32,
     before: &[u32],
     words: &[u32],
@@ -197,8 +196,8 @@ pub(crate) fn judge_next(
     lines: Lines,
     column: u16,
     due: u32,
-    forward: Extent,
-    backward: Extent,
+    forward: u64,
+    backward: u64,
     before: &[u32],
     words: &[u32],
 ) -> Step

@@ -7,7 +7,7 @@ use Rattle.prediction.specs.Vectors.{vectorOf, wordOf}
 use Rattle.prediction.specs.Ranges.{vectorInRange}
 use Rattle.prediction.specs.Addresses.{address}
 use Rattle.prediction.specs.Extents.{emptyExtent, joined}
-use Rattle.prediction.specs.Blocks.{blockAt}
+use Rattle.prediction.specs.Blocks.{blockAt, blockExtent}
 use Rattle.answers.specs.Examples.{found, due, allShown}
 use Rattle.headers.specs.declared.Header.{Header}
 use Rattle.headers.specs.declared.Header.the-variants.{Known, Carried, Unknown}
@@ -67,11 +67,11 @@ every-unknown = (refl, refl)
 every-macroblock : Worked (Known Macroblock 9) macroblocks
 unfolding rulesOf macroblocks macroblockRules placedRules blocksOf predicted forwardOf backwardOf fresh
     commandRules fieldRules vectorRules keptBy macroblockOf caseOf motionOf vectorWords
-    vectorOf wordOf vectorInRange blockAt joined emptyExtent address
+    vectorOf wordOf vectorInRange blockAt blockExtent joined emptyExtent address
 every-macroblock = refl
 
 every-change : map (λ (c : Header × Change). nextOf (c .0) (c .1 .before) (c .1 .words)) sequenceChanges ≡ map (λ (c : Header × Change). c .1 .after) sequenceChanges
 unfolding sequenceChanges nextOf surfaceNext pictureNext groupNext endNext surfaceOf pictureOf fresh
     macroblockNext progressAfter extentsAfter stageAfter positionAfter blocksOf predicted forwardOf backwardOf
-    macroblockOf caseOf motionOf vectorOf wordOf vectorInRange blockAt joined emptyExtent address
+    macroblockOf caseOf motionOf vectorOf wordOf vectorInRange blockAt blockExtent joined emptyExtent address
 every-change = refl

@@ -9,9 +9,10 @@ use Rattle.headers.specs.declared.Header.{Header}
 use Rattle.headers.specs.declared.Header.the-variants.{Known, Carried}
 use Rattle.headers.specs.declared.Opcode.the-variants.{Noop, End, Surface, Picture, SliceGroup, Macroblock}
 use Rattle.progress.specs.Progress.{fresh}
+use Rattle.progress.specs.declared.Extents.{Extents}
 use Rattle.progress.specs.declared.Progress.{Progress}
 use Rattle.progress.specs.declared.Stage.{Stage}
-use Rattle.placement.specs.Examples.{pictureB, groupBegins, sliceOpen, sliceClosed, groupClosed, was, wasNone, touched, progressAt, untouchedAt, macroblockWords, alike, intraWith, Judged, Change, change}
+use Rattle.placement.specs.Examples.{pictureB, groupBegins, sliceOpen, sliceClosed, groupClosed, was, wasNone, window, noWindow, touched, progressAt, untouchedAt, macroblockWords, alike, intraWith, Judged, Change, change}
 
 -- How far a batch has come, in the picture of `placement`'s examples: which commands have come, where no group and no slice is open.
 abbrev idleStage : Bool → Bool → Bool → Bool → Stage
@@ -44,8 +45,11 @@ abbrev pictureCome : Progress
 pictureCome = unbegun (idleStage true true false false)
 
 -- Behind PICTURE: at a column and a row, after a forward macroblock.
+abbrev touchedBefore : Extents
+touchedBefore = touched (window 0 60160) (window 0 60160) (window 3 60161) noWindow
+
 abbrev comeTo : Stage → ℕ → ℕ → Progress
-comeTo s column row = progressAt pictureB s column row (was 1 7 7 7 7) (touched 60160 60160 60161 0)
+comeTo s column row = progressAt pictureB s column row (was 1 7 7 7 7) touchedBefore
 
 -- SLICEGROUP has come; a group with an open slice, and between two slices; a group is closed in the middle of the picture; all have
 -- come but the last, all with the group open, and all; END has come.
@@ -193,6 +197,6 @@ sequenceChanges =
     ∷ (Known Picture 13, change surfaceCome pictureWords pictureCome)
     ∷ (Known SliceGroup 8, change pictureCome groupWords groupCome)
     ∷ (Known SliceGroup 8, change groupOver groupWords (comeTo groupBegins 0 5))
-    ∷ (Known Macroblock 9, change midway (intraWith 0x84000001) (progressAt pictureB groupClosed 4 5 wasNone (touched 60160 60160 60161 0)))
+    ∷ (Known Macroblock 9, change midway (intraWith 0x84000001) (progressAt pictureB groupClosed 4 5 wasNone touchedBefore))
     ∷ (Known End 1, change allCome (0x05000000 ∷ []) endCome)
     ∷ []

@@ -1,4 +1,4 @@
--- `summary_of`: document 01's number, place and lengths of each case of a report.
+-- `summary_of`: the number and the place of each case of a report, and what is reported with it.
 use mathlib.Core.Path.{ap, sym, _∙_}
 use borrow.Author.Needs.{needs}
 use Rattle.interface.specs.Summaries.{summaryOf}

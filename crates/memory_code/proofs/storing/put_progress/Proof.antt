@@ -1,6 +1,7 @@
 -- `put_progress`: the fields of the progress, one part after the other.
-use mathlib.Core.Path.{refl}
+use mathlib.Core.Path.{_∙_, ap}
 use borrow.Author.Needs.{needs}
+use Rattle.memory.specs.Memory.{frameFields, pictureFields, positionFields, previousFields, extentsFields, placed}
 use Rattle.memory_code.proofs.storing.put_progress.Statement.{statement}
 use Rattle.memory_code.proofs.storing.put_progress.Tie as tie
 
@@ -23,7 +24,22 @@ put-extents-requires : tie.Need-put-extents-requires
 put-extents-requires c κs = search needs
 
 returns : tie.Need-returns
-returns c = simp (c .put-extents .ensures, c .before .before .put-previous .ensures, c .before .before .before .before .put-position .ensures, c .before .before .before .before .before .before .put-picture .ensures, c .before .before .before .before .before .before .before .before .put-frame .ensures, c .before .before .before .before .before .before .before .before .before .before .put-stage .ensures)
+returns c =
+    let previous = c .before .before in
+    let position = previous .before .before in
+    let picture = position .before .before in
+    let frame = picture .before .before in
+    let stage = frame .before .before in
+    let p = stage .before .before .args .progress in
+    c .put-extents .ensures
+    ∙ ap (placed (extentsFields (p .extents)))
+    (previous .put-previous .ensures
+    ∙ ap (placed (previousFields (p .previous)))
+    (position .put-position .ensures
+    ∙ ap (placed (positionFields (p .position)))
+    (picture .put-picture .ensures
+    ∙ ap (placed (pictureFields (p .picture)))
+    (frame .put-frame .ensures ∙ ap (placed (frameFields (p .frame))) (stage .put-stage .ensures)))))
 
 pub put-progress-spec : {M : Type 1} → statement M
 put-progress-spec =

@@ -4,7 +4,7 @@ use mathlib.Core.Path.{_≡_, ap, _∙_}
 use Prim.Native.Nat.{ℕ}
 use borrow.Author.Needs.{needs, length-unmapped, elem-fits-field}
 use Rattle.memory.specs.Places.{bufferWords}
-use Rattle.memory.specs.Memory.{stateIn, stateWords, Fitting}
+use Rattle.memory.specs.Memory.{progressFields, ownFields, lengthsFields, placed, stateIn, stateWords, Fitting}
 use Rattle.memory.proofs.MemoryLaws.{stored-read}
 use Rattle.memory_code.proofs.storing.state_words.Statement.{statement}
 use Rattle.memory_code.proofs.storing.state_words.Tie as tie
@@ -68,7 +68,10 @@ returns c =
     let buffer = progress .before .before in
     let start = buffer .before .before .before in
     let s = start .args .state in
-    let words : c .put-lengths .last .1 .0 ≡ stateWords s = simp (c .put-lengths .ensures, own .put-own .ensures, progress .put-progress .ensures, buffer .put-buffer .ensures) in
+    let words : c .put-lengths .last .1 .0 ≡ stateWords s =
+    c .put-lengths .ensures
+    ∙ ap (placed (lengthsFields (s .lengths)))
+    (own .put-own .ensures ∙ ap (placed (ownFields s)) (progress .put-progress .ensures ∙ ap (placed (progressFields (s .progress))) (buffer .put-buffer .ensures))) in
     (words, ap stateIn words ∙ stored-read s (fitting start))
 
 pub state-words-spec : {M : Type 1} → statement M

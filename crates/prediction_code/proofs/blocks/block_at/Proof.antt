@@ -3,6 +3,7 @@ use mathlib.Core.Path.{_≡_, sym, ap, ap₂, _∙_}
 use mathlib.Core.Bool.{Bool, cond, _&&_}
 use borrow.Author.Tests.{not-true, not-false}
 use lib.IntN.{subℕ}
+use native.Mathlib.Omega.{arith}
 use Rattle.prediction.specs.Spans.{inside}
 use Rattle.prediction.specs.Blocks.{blockExtent, blockAt}
 use Rattle.prediction.specs.declared.Extent.{Extent}
@@ -71,7 +72,7 @@ block-extent-requires c κs =
     let a = x .before .before .before .before .args in
     let left = inside-means 16 (a .position .column) (x .before .biased .result) 16384 (a .grid .columns) (sym (c .before .before .before .inside .ensures) ∙ not-false _ (c .before .before .if1 .left)) in
     let top = inside-means 16 (a .position .row) (x .biased2 .result) 16384 (a .grid .rows) (sym (c .before .inside2 .ensures) ∙ not-false _ (c .if2 .left)) in
-    (x .before .biased .ensures .1, left .0, x .biased2 .ensures .1, top .0)
+    (x .before .biased .ensures .1, omega (arith, left .0), x .biased2 .ensures .1, omega (arith, top .0))
 
 returns-3 : tie.Need-returns-3
 unfolding blockAt

@@ -1,6 +1,9 @@
 -- `judge_backward`: a macroblock that is predicted backward only.
-use mathlib.Core.Path.{refl}
+use mathlib.Core.Path.{refl, ap, _∙_}
+use Prim.Native.Nat.{ℕ, max}
 use Rattle.answers.proofs.Judging.{kept}
+use Rattle.prediction.proofs.ExtentLaws.{join-end}
+use Rattle.rows.specs.Steps.{reachIn}
 use borrow.Author.Needs.{needs}
 use Rattle.rows_code.proofs.stepping.judge_backward.Statement.{statement}
 use Rattle.rows_code.proofs.stepping.judge_backward.Tie as tie
@@ -23,11 +26,11 @@ vector-in-lines-requires c κs = search needs
 returns-3 : tie.Need-returns-3
 returns-3 c = search needs
 
-reach-of-requires : tie.Need-reach-of-requires
-reach-of-requires c κs = search needs
+reach-end-requires : tie.Need-reach-end-requires
+reach-end-requires c κs = search needs
 
-join-requires : tie.Need-join-requires
-join-requires c κs = search needs
+join-ends-requires : tie.Need-join-ends-requires
+join-ends-requires c κs = search needs
 
 returns-4 : tie.Need-returns-4
 returns-4 c =
@@ -37,7 +40,7 @@ returns-4 c =
       same = search needs;
       fits = simp (← c .before .before .before .before .before .before .before .before .before .before .before .before .pre, ← c .before .before .before .before .before .before .before .before .before .word-at .ensures, ← c .before .before .before .vector-in-lines .ensures) (kept refl (c .before .before .if3 .left));
       forward-is = refl;
-      backward-is = simp (c .join .ensures, c .before .reach-of .ensures, c .before .before .before .before .before .before .before .before .before .word-at .ensures);
+      backward-is = c .join-ends .ensures ∙ join-end _ _ ∙ ap (max _) (c .before .reach-end .ensures ∙ ap (λ (w : ℕ). reachIn (c .before .before .before .before .before .before .before .before .before .before .before .before .args .progress) (c .before .before .before .before .before .before .before .before .before .before .before .before .args .column) w .end) (c .before .before .before .before .before .before .before .before .before .word-at .ensures));
     }
 
 pub judge-backward-spec : {M : Type 1} → statement M
@@ -50,6 +53,6 @@ judge-backward-spec =
     returns-2
     vector-in-lines-requires
     returns-3
-    reach-of-requires
-    join-requires
+    reach-end-requires
+    join-ends-requires
     returns-4)

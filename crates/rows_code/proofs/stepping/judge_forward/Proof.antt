@@ -1,6 +1,9 @@
 -- `judge_forward`: a macroblock that is predicted forward only.
-use mathlib.Core.Path.{refl}
+use mathlib.Core.Path.{refl, ap, _∙_}
+use Prim.Native.Nat.{ℕ, max}
 use Rattle.answers.proofs.Judging.{kept}
+use Rattle.prediction.proofs.ExtentLaws.{join-end}
+use Rattle.rows.specs.Steps.{reachIn}
 use borrow.Author.Needs.{needs}
 use Rattle.rows_code.proofs.stepping.judge_forward.Statement.{statement}
 use Rattle.rows_code.proofs.stepping.judge_forward.Tie as tie
@@ -26,11 +29,11 @@ vector-in-lines-requires c κs = search needs
 returns-3 : tie.Need-returns-3
 returns-3 c = search needs
 
-reach-of-requires : tie.Need-reach-of-requires
-reach-of-requires c κs = search needs
+reach-end-requires : tie.Need-reach-end-requires
+reach-end-requires c κs = search needs
 
-join-requires : tie.Need-join-requires
-join-requires c κs = search needs
+join-ends-requires : tie.Need-join-ends-requires
+join-ends-requires c κs = search needs
 
 returns-4 : tie.Need-returns-4
 returns-4 c =
@@ -39,7 +42,7 @@ returns-4 c =
       coding = simp (← c .before .before .before .before .before .before .before .is-predicted .ensures) (kept refl (c .before .before .before .before .before .before .if1 .left));
       same = search needs;
       fits = simp (← c .before .before .before .before .before .before .before .before .before .before .before .before .before .pre, ← c .before .before .before .before .before .before .before .before .before .before .word-at .ensures, ← c .before .before .before .vector-in-lines .ensures) (kept refl (c .before .before .if3 .left));
-      forward-is = simp (c .join .ensures, c .before .reach-of .ensures, c .before .before .before .before .before .before .before .before .before .before .word-at .ensures);
+      forward-is = c .join-ends .ensures ∙ join-end _ _ ∙ ap (max _) (c .before .reach-end .ensures ∙ ap (λ (w : ℕ). reachIn (c .before .before .before .before .before .before .before .before .before .before .before .before .before .args .progress) (c .before .before .before .before .before .before .before .before .before .before .before .before .before .args .column) w .end) (c .before .before .before .before .before .before .before .before .before .before .word-at .ensures));
       backward-is = refl;
     }
 
@@ -54,6 +57,6 @@ judge-forward-spec =
     returns-2
     vector-in-lines-requires
     returns-3
-    reach-of-requires
-    join-requires
+    reach-end-requires
+    join-ends-requires
     returns-4)
