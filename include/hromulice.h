@@ -29,13 +29,14 @@
  * and an earlier caller works as it is. A patch step: neither, but answers may be others. HROMULICE_VERSION is one number, greater for a
  * later version.
  *
+ * 3.0.0: a hromulice_report has `firsts` behind `lengths`, and a caller that takes one has to be compiled again.
  * 2.1.0: hromulice_state_words.
  * 2.0.0: a hromulice_state has 128 words; it had 99, and a caller that lends one has to be compiled again.
  * 1.0.1: lengths are counted in Y tiles; 1.0.0 counted plain rows. */
-#define HROMULICE_VERSION_MAJOR 2
-#define HROMULICE_VERSION_MINOR 1
+#define HROMULICE_VERSION_MAJOR 3
+#define HROMULICE_VERSION_MINOR 0
 #define HROMULICE_VERSION_PATCH 0
-#define HROMULICE_VERSION_TEXT "2.1.0"
+#define HROMULICE_VERSION_TEXT "3.0.0"
 #define HROMULICE_VERSION (HROMULICE_VERSION_MAJOR * 65536u + HROMULICE_VERSION_MINOR * 256u + HROMULICE_VERSION_PATCH)
 
 /* Before a function: an answer that is dropped is a warning. */
@@ -76,8 +77,8 @@ enum {
     HROMULICE_TOO_MANY_WORDS = 27  /* 4294967295 */
 };
 
-/* Lengths in bytes of the four picture buffers: source, reconstructed picture, forward and backward reference. All are Y-tiled, and bytes
- * are counted as they stand in memory: byte b of row r is at
+/* Lengths in bytes of the four picture buffers: source, reconstructed picture, forward and backward reference; or a byte of each. All are
+ * Y-tiled, and bytes are counted from 0 as they stand in memory: byte b of row r is at
  *
  *     r / 32 * 32 * pitch + b / 128 * 4096 + b % 128 / 16 * 512 + r % 32 * 16 + b % 16
  *
@@ -90,11 +91,17 @@ typedef struct {
 } hromulice_lengths;
 
 /* The answer to a batch. With numbers 0, 13 and 14 `lengths` is what each buffer must have at least: 0 if the batch touches no byte of
- * it, otherwise one more than the highest byte that it touches. With every other number all four are 0. */
+ * it, otherwise one more than the highest byte that it touches; and `firsts` is the lowest byte that it touches, 0 if it touches none.
+ * With every other number all eight are 0.
+ *
+ * From its first byte to below its length is a buffer's window. A driver may map that alone, with byte 0 where it would be: no sample that
+ * the batch has the engine read or write lies outside. Lengths are counted from byte 0 all the same, and whether a buffer is too short is
+ * judged by them alone. */
 typedef struct {
     uint8_t number;
     uint64_t place;
     hromulice_lengths lengths;
+    hromulice_lengths firsts;
 } hromulice_report;
 
 /* The answer to one command or one record. */
@@ -182,7 +189,8 @@ hromulice_report hromulice_report_of(const hromulice_state *state);
 #endif
 #ifdef HROMULICE_LAYOUT
 HROMULICE_LAYOUT(sizeof(hromulice_lengths) == 32);
-HROMULICE_LAYOUT(sizeof(hromulice_report) == 48 && offsetof(hromulice_report, place) == 8 && offsetof(hromulice_report, lengths) == 16);
+HROMULICE_LAYOUT(sizeof(hromulice_report) == 80 && offsetof(hromulice_report, place) == 8 && offsetof(hromulice_report, lengths) == 16
+                 && offsetof(hromulice_report, firsts) == 48);
 HROMULICE_LAYOUT(sizeof(hromulice_answer) == 16 && offsetof(hromulice_answer, place) == 8);
 #undef HROMULICE_LAYOUT
 #endif

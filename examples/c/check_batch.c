@@ -3,10 +3,10 @@
  *     check_batch FILE [LOG]
  *
  * FILE is what `./check` reads: the lengths in bytes of the four picture buffers, 8 bytes each, then the words of the batch, 4 bytes
- * each, all little-endian. The first line that is printed is the one of `./check`. Behind it stand the answers with their meanings: the
- * batch is checked in parts as it is read, then whole, which gives the same answer. One that is accepted is decoded: its records are
- * written to the file LOG, or printed. Ends with 0 if the batch is accepted, 1 if it is refused, 2 if a file could not be read or
- * written.
+ * each, all little-endian. The first line that is printed is the one of `./check`. Behind it stand the answers with their meanings, and
+ * what the batch needs and touches of each buffer: it is checked in parts as it is read, then whole, which gives the same answer. One
+ * that is accepted is decoded: its records are written to the file LOG, or printed. Ends with 0 if the batch is accepted, 1 if it is
+ * refused, 2 if a file could not be read or written.
  *
  *     gcc -std=c99 -I include examples/c/check_batch.c target/staticlib/libhromulice.a -o check_batch
  */
@@ -34,6 +34,17 @@ static void fail(const char *why)
     exit(2);
 }
 
+/* Whether a report tells what the batch touches of the buffers. */
+static int has_windows(hromulice_report report)
+{
+    return report.number == HROMULICE_ACCEPTED || report.number == HROMULICE_BUFFER_SHORT;
+}
+
+static void print_numbers(hromulice_lengths of)
+{
+    printf(" %" PRIu64 " %" PRIu64 " %" PRIu64 " %" PRIu64, of.source, of.reconstructed, of.forward, of.backward);
+}
+
 /* The line that `./check` prints. */
 static void print_line(hromulice_report report)
 {
@@ -41,22 +52,36 @@ static void print_line(hromulice_report report)
         printf("accept");
     else
         printf("refuse %d %" PRIu64, report.number, report.place);
-    if (report.number == HROMULICE_ACCEPTED || report.number == HROMULICE_BUFFER_SHORT)
-        printf(" %" PRIu64 " %" PRIu64 " %" PRIu64 " %" PRIu64, report.lengths.source, report.lengths.reconstructed,
-               report.lengths.forward, report.lengths.backward);
+    if (has_windows(report)) {
+        print_numbers(report.lengths);
+        print_numbers(report.firsts);
+    }
     printf("\n");
 }
 
-/* The same with its meaning. */
+/* What a driver maps of a buffer: from the first byte to below the length. */
+static void print_window(int buffer, uint64_t first, uint64_t length)
+{
+    printf("  %s: ", hromulice_buffer_name((uint64_t)buffer));
+    if (length == 0)
+        printf("not touched\n");
+    else
+        printf("%" PRIu64 " bytes needed, touched from byte %" PRIu64 " to byte %" PRIu64 "\n", length, first, length - 1);
+}
+
+/* An answer with its meaning. */
 static void print_report(const char *how, hromulice_report report)
 {
     printf("%s: number %d, place %" PRIu64 ": %s", how, report.number, report.place, hromulice_meaning(report.number));
     if (report.number == HROMULICE_BUFFER_SHORT)
         printf(" (%s)", hromulice_buffer_name(report.place));
     printf("\n");
-    if (report.number == HROMULICE_ACCEPTED || report.number == HROMULICE_BUFFER_SHORT)
-        printf("  needed: source %" PRIu64 ", reconstructed %" PRIu64 ", forward %" PRIu64 ", backward %" PRIu64 " bytes\n",
-               report.lengths.source, report.lengths.reconstructed, report.lengths.forward, report.lengths.backward);
+    if (has_windows(report)) {
+        print_window(0, report.firsts.source, report.lengths.source);
+        print_window(1, report.firsts.reconstructed, report.lengths.reconstructed);
+        print_window(2, report.firsts.forward, report.lengths.forward);
+        print_window(3, report.firsts.backward, report.lengths.backward);
+    }
 }
 
 /* Reads up to `most` bytes. Fewer come only at the end of the file. */
@@ -119,7 +144,7 @@ static void read_batch(FILE *file, batch *b, hromulice_state *state)
 
 static hromulice_report refusal(uint8_t number, uint64_t place)
 {
-    hromulice_report report = {0, 0, {0, 0, 0, 0}};
+    hromulice_report report = {0, 0, {0, 0, 0, 0}, {0, 0, 0, 0}};
     report.number = number;
     report.place = place;
     return report;

@@ -33,14 +33,14 @@ def run(*arguments, **how):
 
 
 def report(how, line):
-    """What is printed about one answer: the number, the place, the meaning, and the lengths if the line has them."""
+    """What is printed about one answer: the number, the place, the meaning, and the buffers' windows if the line has them."""
     word, *numbers = line.split()
-    number, place, lengths = ('0', '0', numbers) if word == 'accept' else (numbers[0], numbers[1], numbers[2:])
-    buffer = f' ({texts["buffer " + place]})' if number == '13' else ''
-    yield f'{how}: number {number}, place {place}: {texts[number]}{buffer}'
-    if lengths:
-        names = ('source', 'reconstructed', 'forward', 'backward')
-        yield '  needed: ' + ', '.join(f'{name} {length}' for name, length in zip(names, lengths)) + ' bytes'
+    number, place, reported = ('0', '0', numbers) if word == 'accept' else (numbers[0], numbers[1], numbers[2:])
+    short = f' ({texts["buffer " + place]})' if number == '13' else ''
+    yield f'{how}: number {number}, place {place}: {texts[number]}{short}'
+    for buffer, (length, first) in enumerate(zip(map(int, reported[:4]), reported[4:8])):
+        window = f'{length} bytes needed, touched from byte {first} to byte {length - 1}' if length else 'not touched'
+        yield f'  {texts[f"buffer {buffer}"]}: {window}'
 
 
 def output(line):

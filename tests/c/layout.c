@@ -1,4 +1,5 @@
-/* Ends with 0 if a hromulice_state has the words that the library takes: all of them are written, and none beside them. */
+/* Ends with 0 if a hromulice_state has the words that the library takes: all of them are written, and none beside them; and if a
+ * hromulice_report is laid out as the library answers it, which the header itself asks for from C11 and C++11 on. */
 #include <hromulice.h>
 #include <stdio.h>
 #include <stdlib.h>
@@ -51,6 +52,7 @@ int main(void)
     static hromulice_state one[ALL], other[ALL];
     expect(hromulice_state_words() == HROMULICE_STATE_WORDS, "the header gives a state another number of words");
     expect(8 * hromulice_state_words() == sizeof(hromulice_state), "a state has another size");
+    expect(sizeof(hromulice_report) == 80 && offsetof(hromulice_report, firsts) == 48, "a report is laid out in another way");
     lend(one, 0x5a);
     lend(other, 0xa5);
     expect(memcmp(one + BESIDE, other + BESIDE, sizeof *one) == 0, "words of the state are not written");

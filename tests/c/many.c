@@ -14,11 +14,15 @@
 
 static const uint32_t zeros[PART];
 
-/* A report with `length` for both pictures, and 0 for the references. */
+static int all(hromulice_lengths of, uint64_t pictures, uint64_t references)
+{
+    return of.source == pictures && of.reconstructed == pictures && of.forward == references && of.backward == references;
+}
+
+/* A report with `length` for both pictures, 0 for the references, and 0 for all first bytes. */
 static void compare(hromulice_report r, uint8_t number, uint64_t place, uint64_t length)
 {
-    if (r.number != number || r.place != place || r.lengths.source != length || r.lengths.reconstructed != length
-        || r.lengths.forward != 0 || r.lengths.backward != 0) {
+    if (r.number != number || r.place != place || !all(r.lengths, length, 0) || !all(r.firsts, 0, 0)) {
         fprintf(stderr, "many: due %d at %llu, given %d at %llu\n", number, (unsigned long long)place, r.number, (unsigned long long)r.place);
         exit(1);
     }

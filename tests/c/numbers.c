@@ -1,6 +1,7 @@
 /* Has the library give each number that its functions give, HROMULICE_TOO_MANY_WORDS apart (many.c): the answer is the enumerator, at the
  * place that document 01 says. The inputs are document 01's cases and variants of them, and what is due is written down from that paper, the
- * lengths from document 02's R-3. Prints the names of the enumerators that were given, and ends with 1 at another answer. */
+ * lengths from document 02's R-3 and the first bytes from its R-8. Prints the names of the enumerators that were given, and ends with 1 at
+ * another answer. */
 #include "p1.h"
 #include <hromulice.h>
 #include <inttypes.h>
@@ -11,12 +12,20 @@
 #define NAMED(name) #name, name
 #define COUNT(array) (sizeof(array) / sizeof *(array))
 
-/* The record of P1's macroblock, and what P1 needs. */
-static const uint8_t p1_record[24] = {0, 0, 0, 0, 0, 0, 0, 0, 0x3F, 0, 0, 1, 0x0F, 0, 0, 0, 0, 0, 0, 0, 0, 0, 0, 0};
-static const hromulice_lengths p1_lengths = {384, 384, 0, 0};
-static const hromulice_lengths none = {0, 0, 0, 0};
+/* What is needed and touched of the buffers. */
+typedef struct {
+    hromulice_lengths lengths;
+    hromulice_lengths firsts;
+} windows;
 
-/* "W 2, H 1, pitch 128, C 16, P picture, f code 3, column 0 forward, column 1 intra": P8, with vector (0, 0). */
+static const windows none = {{0, 0, 0, 0}, {0, 0, 0, 0}};
+
+/* The record of P1's macroblock, and what P1 touches. */
+static const uint8_t p1_record[24] = {0, 0, 0, 0, 0, 0, 0, 0, 0x3F, 0, 0, 1, 0x0F, 0, 0, 0, 0, 0, 0, 0, 0, 0, 0, 0};
+static const windows p1_windows = {{384, 384, 0, 0}, {0, 0, 0, 0}};
+
+/* "W 2, H 1, pitch 128, C 16, P picture, f code 3, column 0 forward, column 1 intra": P8, with vector (0, 0). P11 has (32, 0), and its
+ * block begins at column 16, row 0. */
 static const uint32_t p8[46] = {
     0x70010004, 0, 0x003C01F0, 0x480003FB, 0x10, 0,
     0x7300000B, 0xFF333400, 0x400, 1, 0, 0, 0, 0, 0, 0, 0, 0, 0,
@@ -25,6 +34,7 @@ static const uint32_t p8[46] = {
     0x73490007, 0x00003A00, 1, 0xFC0, 0x84000001, 0, 0, 0, 0,
     0x05000000
 };
+static const windows p11_windows = {{896, 896, 896, 0}, {0, 0, 512, 0}};
 
 static void expect(int fact, const char *name, const char *operation)
 {
@@ -34,11 +44,14 @@ static void expect(int fact, const char *name, const char *operation)
     }
 }
 
-static int is(hromulice_report report, uint8_t number, uint64_t place, hromulice_lengths lengths)
+static int same(hromulice_lengths a, hromulice_lengths b)
 {
-    return report.number == number && report.place == place && report.lengths.source == lengths.source
-        && report.lengths.reconstructed == lengths.reconstructed && report.lengths.forward == lengths.forward
-        && report.lengths.backward == lengths.backward;
+    return a.source == b.source && a.reconstructed == b.reconstructed && a.forward == b.forward && a.backward == b.backward;
+}
+
+static int is(hromulice_report report, uint8_t number, uint64_t place, windows due)
+{
+    return report.number == number && report.place == place && same(report.lengths, due.lengths) && same(report.firsts, due.firsts);
 }
 
 static int answers(hromulice_answer answer, uint8_t number, uint64_t place)
@@ -47,10 +60,10 @@ static int answers(hromulice_answer answer, uint8_t number, uint64_t place)
 }
 
 /* A batch beside buffers of P1's lengths but for the second one: checked whole, decoded, and checked in parts of one word. */
-static void batch(const char *name, uint8_t number, uint64_t place, hromulice_lengths due, const uint32_t *words, size_t count,
+static void batch(const char *name, uint8_t number, uint64_t place, windows due, const uint32_t *words, size_t count,
                   uint64_t reconstructed)
 {
-    hromulice_lengths lengths = p1_lengths;
+    hromulice_lengths lengths = p1_windows.lengths;
     hromulice_state state;
     uint8_t log[48];
     size_t i;
@@ -92,28 +105,45 @@ static void check_p1(void)
     uint32_t words[COUNT(p1) + 1];
     uint8_t log[23];
     size_t i;
-    batch(NAMED(HROMULICE_ACCEPTED), 0, p1_lengths, p1, COUNT(p1), 384);
-    batch(NAMED(HROMULICE_BUFFER_SHORT), 1, p1_lengths, p1, COUNT(p1), 383); /* P2 */
+    batch(NAMED(HROMULICE_ACCEPTED), 0, p1_windows, p1, COUNT(p1), 384);
+    batch(NAMED(HROMULICE_BUFFER_SHORT), 1, p1_windows, p1, COUNT(p1), 383); /* P2 */
     for (i = 0; i < COUNT(variants); i++) {
         const variant *v = variants + i;
         memcpy(words, p1, sizeof p1);
         words[v->changed] = v->word;
         batch(v->name, v->number, v->place, none, words, v->count, 384);
     }
-    expect(is(hromulice_decode(p1, COUNT(p1), p1_lengths, log, 23), HROMULICE_ROOM_SHORT, 24, p1_lengths), "14", "decoding");
+    expect(is(hromulice_decode(p1, COUNT(p1), p1_windows.lengths, log, 23), HROMULICE_ROOM_SHORT, 24, p1_windows), "14", "decoding");
+}
+
+/* P8 with another vector. */
+static void move(uint32_t *words, uint32_t vector)
+{
+    size_t i;
+    memcpy(words, p8, sizeof p8);
+    for (i = 32; i < 36; i++)
+        words[i] = vector;
 }
 
 /* P8 with other f codes, word 1 of its first macroblock and vector. */
 static void check_p8(const char *name, uint8_t number, uint64_t place, uint32_t codes, uint32_t word, uint32_t vector)
 {
     uint32_t words[COUNT(p8)];
-    size_t i;
-    memcpy(words, p8, sizeof p8);
+    move(words, vector);
     words[7] = codes;
     words[28] = word;
-    for (i = 32; i < 36; i++)
-        words[i] = vector;
     batch(name, number, place, none, words, COUNT(words), 384);
+}
+
+/* P11, with a first byte that is not 0: beside P1's lengths, and with room for one record and beside its own. */
+static void check_p11(void)
+{
+    uint32_t words[COUNT(p8)];
+    uint8_t log[24];
+    move(words, 32);
+    batch(NAMED(HROMULICE_BUFFER_SHORT), 0, p11_windows, words, COUNT(words), 384);
+    expect(is(hromulice_check(words, COUNT(words), p11_windows.lengths), HROMULICE_ACCEPTED, 0, p11_windows), "0", "the check");
+    expect(is(hromulice_decode(words, COUNT(words), p11_windows.lengths, log, 24), HROMULICE_ROOM_SHORT, 48, p11_windows), "14", "decoding");
 }
 
 static void read_one(const char *name, uint8_t number, uint64_t place, const uint32_t *words, size_t count, size_t bytes)
@@ -154,6 +184,7 @@ int main(void)
     check_p8(NAMED(HROMULICE_VECTOR_RANGE), 32, 0xFF113400, 0x00000100, 16);   /* P13, f code 1 and (16, 0) */
     check_p8(NAMED(HROMULICE_VECTOR_OUTSIDE), 32, 0xFF333400, 0x00000100, 33); /* P12, (33, 0) */
     check_p8(NAMED(HROMULICE_SKIP), 28, 0xFF333400, 0x00000104, 0);            /* skipped, and first in its slice */
+    check_p11();
     check_singles();
     return 0;
 }

@@ -27,8 +27,9 @@ class Case:
     terminal: bool = False
 
 
-P1, BELOW = 'accept 384 384 0 0\n', 'refuse 10 50\n'
-SEVEN = 'accept 7 7 7 7\n'
+P1, BELOW = 'accept 384 384 0 0 0 0 0 0\n', 'refuse 10 50\n'
+# What other programs say.
+ONES, SEVENS = 'accept 1 1 1 1 1 1 1 1', 'accept 7 7 7 7 7 7 7 7'
 USAGE = r'usage: \./check .*\n'
 UNWRITTEN = 'check: standard output cannot be written\n'
 CHANGED = 'the sources changed since it was built'
@@ -43,17 +44,17 @@ def building(why, crates, self='check', what='the checker'):
 
 
 def answers():
-    several = 'samples/p1.batch: accept 384 384 0 0\n'
+    several = 'samples/p1.batch: ' + P1
     return [
         Case('a file', './check samples/p1.batch', 0, P1),
         Case('a file that is refused', './check samples/vector_below.batch', 1, BELOW),
-        Case('number 13', './check samples/short_reference.batch', 1, 'refuse 13 2 896 896 882 0\n'),
+        Case('number 13', './check samples/short_reference.batch', 1, 'refuse 13 2 896 896 882 0 0 0 1 0\n'),
         Case('standard input', './check < samples/p1.batch', 0, P1),
         Case('standard input by name', './check - < samples/vector_below.batch', 1, BELOW),
         Case('a pipe', 'cat samples/p1.batch | ./check', 0, P1),
         Case('a pipe as a file', './check <(cat samples/p1.batch)', 0, P1),
         Case('empty input', './check < /dev/null', 1, 'refuse 16 0\n'),
-        Case('several, accepted', './check samples/p1.batch samples/b_picture.batch', 0, several + 'samples/b_picture.batch: accept 5376 5376 5236 5344\n'),
+        Case('several, accepted', './check samples/p1.batch samples/b_picture.batch', 0, several + 'samples/b_picture.batch: accept 5376 5376 5236 5344 0 0 0 32\n'),
         Case('several, one refused', './check samples/vector_below.batch samples/p1.batch', 1, 'samples/vector_below.batch: ' + BELOW + several),
         Case('several, all statuses', './check samples/p1.batch none samples/vector_below.batch samples samples/p1.batch', 2,
              several + 'samples/vector_below.batch: ' + BELOW + several,
@@ -122,10 +123,10 @@ def names():
         Case('a repository whose name has a blank, quotes and a line feed', '"$ROOM/$odd/check" "$ROOM/$odd/samples/p1.batch" 2> /dev/null', 0, P1,
              before='''odd=$'a "b\\' c\\n'; rm -rf "$ROOM/$odd"; cp -a . "$ROOM/$odd"; echo >> "$ROOM/$odd/crates.txt"''', builds=1),
         Case('a blank and quotes', '''cp samples/p1.batch $'a "b\\' c'; ./check $'a "b\\' c' samples/p1.batch''', 0,
-             '''a "b' c: accept 384 384 0 0\nsamples/p1.batch: ''' + P1),
-        Case('a line feed', r'''f=$'a: accept 1 1 1 1\nb'; cp samples/vector_below.batch "$f"; ./check "$f"''', 1, BELOW),
-        Case('a line feed, among several', r'''f=$'a: accept 1 1 1 1\nb'; cp samples/vector_below.batch "$f"; ./check "$f" "$f" none''', 2,
-             2 * (r"$'a: accept 1 1 1 1\nb': " + BELOW), 'check: none cannot be read: .*\n'),
+             '''a "b' c: ''' + P1 + 'samples/p1.batch: ' + P1),
+        Case('a line feed', rf'''f=$'a: {ONES}\nb'; cp samples/vector_below.batch "$f"; ./check "$f"''', 1, BELOW),
+        Case('a line feed, among several', rf'''f=$'a: {ONES}\nb'; cp samples/vector_below.batch "$f"; ./check "$f" "$f" none''', 2,
+             2 * (rf"$'a: {ONES}\nb': " + BELOW), 'check: none cannot be read: .*\n'),
         Case('a line feed in a missing name', r'''./check $'a\nb' ''', 2, err=r"check: \$'a\\nb' cannot be read: No such file or directory\n"),
         Case('a dash in front, behind --', 'cp samples/p1.batch ./-x.batch; ./check -- -x.batch', 0, P1),
         Case('a dash in front, with a folder', 'cp samples/p1.batch ./-x.batch; ./check ./-x.batch', 0, P1),
@@ -143,8 +144,8 @@ def names():
 
 
 def old_products(crates):
-    """Each state in which the program that is there must not be believed, with the reason that is given. The new one says SEVEN."""
-    other = r"printf '#!/bin/sh\necho accept 1 1 1 1\n'"
+    """Each state in which the program that is there must not be believed, with the reason that is given. The new one says SEVENS."""
+    other = rf"printf '#!/bin/sh\necho {ONES}\n'"
     not_built = r'target/bin/checker is not the file that was built'
     unknown = r'nothing says what target/bin/checker was built from'
     states = [
@@ -172,10 +173,10 @@ def old_products(crates):
         ('neither program nor record', 'rm target/bin/checker*', 'it is not built yet'),
         ('nothing', 'rm -r target', 'it is not built yet'),
         ('built by hand from changed sources, which were put back',
-         'cp crates/checker/src/main.rt k; ' + ADD + 'crates/checker/src/main.rt; says "accept 1 1 1 1"; rt check checker; mv k crates/checker/src/main.rt', not_built),
+         'cp crates/checker/src/main.rt k; ' + ADD + f'crates/checker/src/main.rt; says "{ONES}"; rt check checker; mv k crates/checker/src/main.rt', not_built),
     ]
     for name, before, why in states:
-        yield Case(name, './check samples/p1.batch; ./check samples/p1.batch', 0, 2 * SEVEN, building(why, crates), before + "; says 'accept 7 7 7 7'", 1)
+        yield Case(name, './check samples/p1.batch; ./check samples/p1.batch', 0, 2 * (SEVENS + '\n'), building(why, crates), before + f"; says '{SEVENS}'", 1)
 
 
 def kept_products():
@@ -186,7 +187,7 @@ def kept_products():
         ('dates alone changed', 'find crates -type f -exec touch {} +'),
         ('the repository was moved', 'cp -a . "$ROOM/moved"; cd "$ROOM/moved"'),
     ]:
-        yield Case(name, './check samples/p1.batch', 0, P1, before=before + "; says 'accept 7 7 7 7'")
+        yield Case(name, './check samples/p1.batch', 0, P1, before=before + f"; says '{SEVENS}'")
 
 
 def failing_builds(crates):
@@ -221,12 +222,13 @@ def failing_builds(crates):
 
 def wrong_lines():
     """What a program may not say. None of it is passed on."""
-    for said in ['accept 1 2 3', 'accept 1 2 3 4 5', 'accept 01 2 3 4', 'accept -1 2 3 4', 'accept  1 2 3 4', 'accept 1 2 3 4 ', 'accepted 1 2 3 4',
-                 'accept', 'refuse', 'refuse 10', 'refuse 10 50 1', 'refuse 13 2', 'refuse 13 2 1 1 1', 'refuse 0 0', 'accept 1 2 3 4\\naccept 1 2 3 4', '']:
+    for said in ['accept 1 1 1 1', 'accept 1 1 1 1 1 1 1', f'{ONES} 1', 'accept 01 1 1 1 1 1 1 1', 'accept -1 1 1 1 1 1 1 1', 'accept  1 1 1 1 1 1 1 1',
+                 f'{ONES} ', 'accepted 1 1 1 1 1 1 1 1', 'accept', 'refuse', 'refuse 10', 'refuse 10 50 1', 'refuse 13 2', 'refuse 13 2 1 1 1 1',
+                 'refuse 13 2 1 1 1 1 1 1 1', 'refuse 13 2 1 1 1 1 1 1 1 1 1', 'refuse 0 0', f'{ONES}\\n{ONES}', '']:
         yield Case(f'the program says: {said}', './check samples/p1.batch', 2, err='check: samples/p1.batch: the program .* ended with status 0 and no answer: .*\n',
                    before=f"{ADD}crates/fields/src/lib.rt; says '{said}'; ./check samples/p1.batch")
-    for name, said in [('no line feed', 'printf "accept 1 2 3 4"'), ('status 1', 'echo accept 1 2 3 4; exit 1'), ('a signal', 'echo accept 1 2 3 4; kill -9 $$'),
-                       ('a complaint beside the line', 'echo accept 1 2 3 4; echo so >&2')]:
+    for name, said in [('no line feed', f'printf "{ONES}"'), ('status 1', f'echo {ONES}; exit 1'), ('a signal', f'echo {ONES}; kill -9 $$'),
+                       ('a complaint beside the line', f'echo {ONES}; echo so >&2')]:
         yield Case(f'the program ends with {name}', './check samples/p1.batch', 2, err='(?s)(.*\n)?check: samples/p1.batch: the program .* no answer: [^\n]*\n',
                    before=f"{ADD}crates/fields/src/lib.rt; says x; printf '#!/bin/sh\\n%s\\n' '{said}' > $FAKE_PRODUCT; ./check samples/p1.batch")
 

@@ -36,8 +36,8 @@ fn shortened(due: String, given: String) -> [String; 2] {
 
 /// The Rust crate's report in the form of the second program's.
 fn report_of(report: hromulice::Report) -> Report {
-    let lengths = report.needed().map_or([0; 4], <[u64; 4]>::from);
-    Report { number: report.number(), place: report.place(), lengths }
+    let (lengths, firsts) = report.reported().map_or(Default::default(), |of| (of.lengths.into(), of.firsts.into()));
+    Report { number: report.number(), place: report.place(), lengths, firsts }
 }
 
 fn answer_of(result: Result<(), Refusal>) -> Answer {

@@ -9,7 +9,7 @@
 use crate::compare::{Compare, Compared};
 use crate::interface::{Interface, STATE_WORDS};
 use reference::batch_valid::once_in;
-use reference::check::{beside, judge};
+use reference::check::{beside, judge, lengths_of};
 use reference::decode::log_bytes;
 use reference::generate::batches::Batches;
 use reference::generate::{input, single};
@@ -39,7 +39,7 @@ fn lengths(exact: [u64; 4], choice: u8) -> [u64; 4] {
 
 fn ask_batch(compare: &mut Compare, [room, buffers, parting]: [u8; 3], words: &[u32]) -> Compared {
     let judged = judge(words);
-    let buffers = lengths(judged.unwrap_or([384; 4]), buffers);
+    let buffers = lengths(judged.map_or([384; 4], lengths_of), buffers);
     let due = beside(judged, buffers);
     compare.whole(words, buffers, due)?;
     let mut r = Random::new(parting.into());

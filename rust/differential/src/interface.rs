@@ -18,6 +18,7 @@ struct CReport {
     number: u8,
     place: u64,
     lengths: CLengths,
+    firsts: CLengths,
 }
 
 #[repr(C)]
@@ -43,9 +44,12 @@ fn lengths([source, reconstructed, forward, backward]: [u64; 4]) -> CLengths {
     CLengths { source, reconstructed, forward, backward }
 }
 
-fn report(of: CReport) -> Report {
-    let CLengths { source, reconstructed, forward, backward } = of.lengths;
-    Report { number: of.number, place: of.place, lengths: [source, reconstructed, forward, backward] }
+fn numbers(CLengths { source, reconstructed, forward, backward }: CLengths) -> [u64; 4] {
+    [source, reconstructed, forward, backward]
+}
+
+fn report(CReport { number, place, lengths, firsts }: CReport) -> Report {
+    Report { number, place, lengths: numbers(lengths), firsts: numbers(firsts) }
 }
 
 fn answer(of: CAnswer) -> Answer {

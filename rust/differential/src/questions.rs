@@ -3,7 +3,7 @@
 use crate::compare::{Compare, Compared, Mismatch};
 use crate::program::{run, way};
 use reference::batch_valid::{once_in, pick};
-use reference::check::{beside, line};
+use reference::check::{beside, lengths_of, line};
 use reference::decode::log_bytes;
 use reference::generate::batches::{Batch, Batches};
 use reference::generate::{input, single};
@@ -63,7 +63,7 @@ fn decoded(compare: &mut Compare, r: &mut Random, batch: &Batch, exact: [u64; 4]
 
 /// One batch, checked whole and in parts, and decoded.
 pub fn ask_batch(compare: &mut Compare, r: &mut Random, batch: &Batch) -> Asked {
-    let exact = batch.judged.unwrap_or([384; 4]);
+    let exact = batch.judged.map_or([384; 4], lengths_of);
     let compared =
         whole(compare, r, batch, exact).and_then(|()| parts(compare, r, batch)).and_then(|()| decoded(compare, r, batch, exact));
     with_bytes(compared, || bytes_of(&batch.words, batch.buffers))

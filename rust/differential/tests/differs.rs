@@ -1,33 +1,41 @@
 //! Wrong answers are seen: with another answer due, and with a program that prints something else.
 
 use differential::compare::Compare;
-use reference::batch_document::p1;
+use reference::batch::small_p;
+use reference::batch_cases::needed;
 use reference::check::{check, Report};
 use std::process::{Command, Output};
 
-const ENOUGH: [u64; 4] = [384, 384, 0, 0];
-
-/// The answer due, and four that differ from it in one thing.
-fn others(due: Report) -> [Report; 4] {
-    let mut lengths = due.lengths;
-    lengths[2] += 1;
-    [Report { number: 12, ..due }, Report { place: 1, ..due }, Report { lengths, ..due }, Report { lengths: [0; 4], ..due }]
+/// Answers that differ from the one due in one thing.
+fn others(due: Report) -> Vec<Report> {
+    let mut others = vec![Report { number: 12, ..due }, Report { place: 1, ..due }];
+    others.extend([Report { lengths: [0; 4], ..due }, Report { firsts: [0; 4], ..due }]);
+    for n in 0..4 {
+        let (mut lengths, mut firsts) = (due.lengths, due.firsts);
+        lengths[n] += 1;
+        firsts[n] += 1;
+        others.extend([Report { lengths, ..due }, Report { firsts, ..due }]);
+    }
+    others
 }
 
 #[test]
 fn another_answer_due() {
-    let (mut compare, words) = (Compare::default(), p1());
-    let due = check(&words, ENOUGH);
-    let parts = [(0, true), (20, true), (0, false), (17, true), (0, false)];
-    compare.whole(&words, ENOUGH, due).unwrap();
-    compare.parts(&words, ENOUGH, &parts, u64::MAX, due).unwrap();
+    let (mut compare, words) = (Compare::default(), small_p().words());
+    let enough = needed(&words);
+    let due = check(&words, enough);
+    let parts = [(0, true), (20, true), (0, false), (words.len() - 20, true), (0, false)];
+    compare.whole(&words, enough, due).unwrap();
+    compare.parts(&words, enough, &parts, u64::MAX, due).unwrap();
     for other in others(due) {
-        assert!(compare.whole(&words, ENOUGH, other).is_err());
-        assert!(compare.parts(&words, ENOUGH, &parts, 0, other).is_err());
+        assert!(compare.whole(&words, enough, other).is_err());
+        assert!(compare.parts(&words, enough, &parts, 0, other).is_err());
+        assert!(compare.decoded(&words, enough, 72, other).is_err());
     }
-    for room in [0, 23, 24, 25, 100] {
-        compare.decoded(&words, ENOUGH, room, due).unwrap();
+    for room in [0, 71, 72, 73, 100] {
+        compare.decoded(&words, enough, room, due).unwrap();
         assert!(compare.decoded(&words, [0; 4], room, due).is_err());
+        assert!(compare.decoded(&words, enough, room, Report { firsts: [0; 4], ..due }).is_err());
     }
     compare.command(&words[27..], 24).unwrap();
     compare.record(&[0; 24], 9).unwrap();

@@ -16,6 +16,8 @@ dropped! {
     Accepted: "check(&[], Lengths::NONE).is_accepted()",
     Refused: "check(&[], Lengths::NONE).refusal()",
     Needed: "check(&[], Lengths::NONE).needed()",
+    WithReport: "check(&[], Lengths::NONE).reported()",
+    Touched: "check(&[], Lengths::NONE).reported().unwrap().window(Buffer::Source)",
     CommandRead: "read_command(&[], &mut [])",
     RecordWritten: "write_command(&[], &mut [])",
     Text: "meaning(1)",

@@ -20,6 +20,7 @@ pub struct Report {
     pub number: u8,
     pub place: u64,
     pub lengths: Lengths,
+    pub firsts: Lengths,
 }
 
 #[repr(C)]

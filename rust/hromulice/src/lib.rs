@@ -1,8 +1,8 @@
 //! Safe functions over `libhromulice.a`, the proved checker of MPEG-2 command batches for Haswell's media engine.
 //!
 //! The checker stands between whoever builds a batch and the engine. It reads any words at all and answers: accepted, with
-//! the bytes that each of the four picture buffers must have, or refused, with the number of the first rule that is broken
-//! and its place. "Document 01" is the rules document; its numbers are [`Reason`].
+//! the bytes that each of the four picture buffers must have and the first that is touched, or refused, with the number of the
+//! first rule that is broken and its place. "Document 01" is the rules document; its numbers are [`Reason`].
 //!
 //! - [`check`]: a batch that is there as a whole. A driver asks it before it submits the batch.
 //! - [`Check`]: the same for a batch that comes in parts, with the same answer.
@@ -53,7 +53,7 @@ pub mod example;
 
 pub use parts::{state_words, Check};
 pub use reason::{meaning, Reason, Refusal};
-pub use report::{Buffer, Lengths, Report};
+pub use report::{Buffer, Lengths, Report, Reported};
 pub use version::{version, Version, VERSION};
 
 /// The bytes of one log record.
@@ -64,15 +64,16 @@ pub const COMMAND_WORDS: usize = 9;
 
 /// Checks a whole batch beside picture buffers of these lengths.
 ///
-/// Every batch gets an answer. The lengths that are reported do not depend on `lengths`, so a caller that has not taken its
-/// buffers yet asks with [`Lengths::LONGEST`].
+/// Every batch gets an answer. What is [`Reported`] does not depend on `lengths`, so a caller that has not taken its buffers
+/// yet asks with [`Lengths::LONGEST`].
 ///
 /// ```
 /// use hromulice::{check, example, Lengths, Reason, Refusal, Report};
 ///
 /// let mut batch = example::ONE_MACROBLOCK;
 /// let needed = Lengths { source: 384, reconstructed: 384, forward: 0, backward: 0 };
-/// assert_eq!(check(&batch, needed), Report::Accepted(needed));
+/// assert!(check(&batch, needed).is_accepted());
+/// assert_eq!(check(&batch, needed).needed(), Some(needed));
 ///
 /// // The quantiser, in word 4 of the macroblock, is from 1 to 31.
 /// batch[31] &= !31;

@@ -3,9 +3,10 @@
 use crate::ffi;
 use crate::reason::{Reason, Refusal};
 use core::fmt;
+use core::ops::Range;
 
-/// Lengths in bytes of the four picture buffers: those that a batch is checked beside, or those that it needs. The buffers are
-/// Y-tiled, and bytes are counted as they stand in memory.
+/// Lengths in bytes of the four picture buffers: those that a batch is checked beside, or those that it needs; or a byte of
+/// each ([`Reported::firsts`]). The buffers are Y-tiled, and bytes are counted from 0 as they stand in memory.
 ///
 /// ```
 /// use hromulice::Lengths;
@@ -32,14 +33,14 @@ impl Lengths {
     /// So long that no batch is refused for them: to learn what a batch needs before any memory is taken.
     ///
     /// ```
-    /// use hromulice::{check, example, Lengths, Report};
+    /// use hromulice::{check, example, Lengths};
     ///
-    /// let Report::Accepted(needed) = check(&example::ONE_MACROBLOCK, Lengths::LONGEST) else { panic!() };
-    /// assert_eq!(needed, Lengths::from([384, 384, 0, 0]));
+    /// let needed = check(&example::ONE_MACROBLOCK, Lengths::LONGEST).needed();
+    /// assert_eq!(needed, Some(Lengths::from([384, 384, 0, 0])));
     /// ```
     pub const LONGEST: Lengths = Lengths { source: u64::MAX, reconstructed: u64::MAX, forward: u64::MAX, backward: u64::MAX };
 
-    /// The length of one buffer.
+    /// The length, or the byte, of one buffer.
     #[must_use]
     pub const fn of(&self, buffer: Buffer) -> u64 {
         match buffer {
@@ -112,6 +113,56 @@ impl fmt::Display for Buffer {
     }
 }
 
+/// What a batch needs and touches of the four picture buffers. It is reported with 0, 13 and 14, and does not depend on the
+/// lengths that the batch was checked beside.
+///
+/// A driver that maps no more than is used asks for each buffer's window, and puts byte 0 where it would be if all were mapped:
+///
+/// ```
+/// use hromulice::{check, example, Buffer, Lengths, Report};
+///
+/// const PAGE: u64 = 4096;
+///
+/// let Report::Accepted(reported) = check(&example::ONE_MACROBLOCK, Lengths::LONGEST) else { panic!() };
+/// for buffer in Buffer::ALL {
+///     let window = reported.window(buffer);
+///     let pages = window.start / PAGE..window.end.div_ceil(PAGE);
+///     println!("{buffer}: map the pages {pages:?}");
+/// }
+/// assert_eq!(reported.window(Buffer::Source), 0..384);
+/// assert!(reported.window(Buffer::Forward).is_empty());
+/// ```
+#[derive(Clone, Copy, Debug, PartialEq, Eq, Hash)]
+#[non_exhaustive]
+pub struct Reported {
+    /// The bytes that each buffer must have, counted from byte 0: one more than the highest byte that is read or written,
+    /// zero if none is.
+    pub lengths: Lengths,
+    /// The lowest byte of each buffer that is read or written, zero if none is.
+    pub firsts: Lengths,
+}
+
+impl Reported {
+    /// The bytes of one buffer from the first that is read or written to the last; empty, and at 0, if none is.
+    #[must_use]
+    pub const fn window(&self, buffer: Buffer) -> Range<u64> {
+        self.firsts.of(buffer)..self.lengths.of(buffer)
+    }
+}
+
+impl fmt::Display for Reported {
+    fn fmt(&self, f: &mut fmt::Formatter<'_>) -> fmt::Result {
+        write!(f, "needed: {}; touched:", self.lengths)?;
+        for (buffer, comma) in Buffer::ALL.into_iter().zip(["", ",", ",", ","]) {
+            match self.window(buffer) {
+                window if window.is_empty() => write!(f, "{comma} {buffer} none")?,
+                window => write!(f, "{comma} {buffer} {window:?}")?,
+            }
+        }
+        Ok(())
+    }
+}
+
 /// The answer to a batch.
 ///
 /// ```
@@ -120,9 +171,9 @@ impl fmt::Display for Buffer {
 /// let batch = example::ONE_MACROBLOCK;
 /// let report = check(&batch, Lengths { reconstructed: 383, ..Lengths::LONGEST });
 /// match report {
-///     Report::Accepted(needed) => println!("to the engine; it touches {needed}"),
-///     Report::ShortBuffer { buffer, needed } => {
-///         assert_eq!((buffer, needed.of(buffer)), (Buffer::Reconstructed, 384));
+///     Report::Accepted(reported) => println!("to the engine; {reported}"),
+///     Report::ShortBuffer { buffer, reported } => {
+///         assert_eq!((buffer, reported.lengths.of(buffer)), (Buffer::Reconstructed, 384));
 ///     }
 ///     Report::ShortLog { .. } => unreachable!("the check lends no log"),
 ///     Report::Refused(refusal) => println!("not to the engine: {refusal}"),
@@ -132,22 +183,21 @@ impl fmt::Display for Buffer {
 #[derive(Clone, Copy, Debug, PartialEq, Eq, Hash)]
 #[must_use = "only an accepted batch may go to the engine"]
 pub enum Report {
-    /// Every rule is kept. The lengths are exactly those that the batch needs: for each buffer one more than the highest
-    /// byte that is read or written, zero if none is.
-    Accepted(Lengths),
-    /// 13: all else is right, but a buffer is too short.
+    /// Every rule is kept, and no byte outside of the windows is read or written.
+    Accepted(Reported),
+    /// 13: all else is right, but a buffer is too short. That depends on the lengths alone.
     ShortBuffer {
         /// The lowest buffer that is too short.
         buffer: Buffer,
-        /// The lengths that the batch needs.
-        needed: Lengths,
+        /// What the batch needs and touches.
+        reported: Reported,
     },
     /// 14, of [`decode`](crate::decode) alone: all else is right, but the lent log is too short.
     ShortLog {
         /// The bytes that the log needs, 24 for each macroblock of the picture.
         bytes: u64,
-        /// The lengths that the batch needs.
-        needed: Lengths,
+        /// What the batch needs and touches.
+        reported: Reported,
     },
     /// 1 to 12 and 27: the first fault.
     Refused(Refusal),
@@ -183,22 +233,32 @@ impl Report {
         self.refusal().map_or(0, |refusal| refusal.place)
     }
 
-    /// The lengths that the batch needs, which are reported with 0, 13 and 14. They do not depend on the lengths that the
-    /// batch was checked beside.
+    /// What the batch needs and touches, which is reported with 0, 13 and 14.
+    #[must_use]
+    pub const fn reported(&self) -> Option<Reported> {
+        match *self {
+            Report::Accepted(reported) | Report::ShortBuffer { reported, .. } | Report::ShortLog { reported, .. } => {
+                Some(reported)
+            }
+            Report::Refused(_) => None,
+        }
+    }
+
+    /// The lengths that the batch needs, which are reported with 0, 13 and 14.
     #[must_use]
     pub const fn needed(&self) -> Option<Lengths> {
-        match *self {
-            Report::Accepted(needed) | Report::ShortBuffer { needed, .. } | Report::ShortLog { needed, .. } => Some(needed),
-            Report::Refused(_) => None,
+        match self.reported() {
+            Some(reported) => Some(reported.lengths),
+            None => None,
         }
     }
 }
 
 impl fmt::Display for Report {
     fn fmt(&self, f: &mut fmt::Formatter<'_>) -> fmt::Result {
-        match (self.refusal(), self.needed()) {
-            (None, Some(needed)) => write!(f, "accepted; needed: {needed}"),
-            (Some(refusal), Some(needed)) => write!(f, "{refusal}; needed: {needed}"),
+        match (self.refusal(), self.reported()) {
+            (None, Some(reported)) => write!(f, "accepted; {reported}"),
+            (Some(refusal), Some(reported)) => write!(f, "{refusal}; {reported}"),
             (Some(refusal), None) => write!(f, "{refusal}"),
             (None, None) => Ok(()),
         }
@@ -212,12 +272,12 @@ pub(crate) fn refusal_of(number: u8, place: u64) -> Refusal {
 }
 
 impl From<ffi::Report> for Report {
-    fn from(ffi::Report { number, place, lengths }: ffi::Report) -> Report {
-        let needed = lengths.into();
+    fn from(ffi::Report { number, place, lengths, firsts }: ffi::Report) -> Report {
+        let reported = Reported { lengths: lengths.into(), firsts: firsts.into() };
         match number {
-            0 => Report::Accepted(needed),
-            13 => Report::ShortBuffer { buffer: Buffer::ALL[place as usize], needed },
-            14 => Report::ShortLog { bytes: place, needed },
+            0 => Report::Accepted(reported),
+            13 => Report::ShortBuffer { buffer: Buffer::ALL[place as usize], reported },
+            14 => Report::ShortLog { bytes: place, reported },
             _ => Report::Refused(refusal_of(number, place)),
         }
     }

@@ -2,17 +2,8 @@
 
 mod common;
 
-use common::{document_01, two_columns, Case, P1, P1_LENGTHS};
-use hromulice::{check, decode, Buffer, Check, Lengths, Reason, Refusal, Report};
-
-/// The report due, put together from the case.
-fn due(case: &Case) -> Report {
-    match (case.number, case.needed.map(Lengths::from)) {
-        (0, Some(needed)) => Report::Accepted(needed),
-        (13, Some(needed)) => Report::ShortBuffer { buffer: Buffer::ALL[case.place as usize], needed },
-        (number, _) => Report::Refused(Refusal { reason: Reason::from_number(number).unwrap(), place: case.place }),
-    }
-}
+use common::{document_01, told, two_columns, P1, P1_LENGTHS};
+use hromulice::{check, decode, Buffer, Check, Lengths, Reason, Report};
 
 #[test]
 fn whole() {
@@ -20,20 +11,45 @@ fn whole() {
     assert_eq!(cases.len(), 7 + 10 + 4);
     for case in cases {
         let report = check(&case.words, case.lengths.into());
-        assert_eq!(report, due(&case), "{}", case.name);
-        assert_eq!((report.number(), report.place()), (case.number, case.place), "{}", case.name);
-        assert_eq!(report.needed().map(<[u64; 4]>::from), case.needed, "{}", case.name);
-        assert_eq!(report.is_accepted(), case.number == 0);
+        assert_eq!(told(report), case.due, "{}", case.name);
+        assert_eq!(report.needed().map(<[u64; 4]>::from), case.due.2.map(|[lengths, _]| lengths), "{}", case.name);
+        assert_eq!(report.is_accepted(), case.due.0 == 0, "{}", case.name);
     }
 }
 
-/// Beside the longest buffers none is too short, and the lengths are the same.
+/// The same as cases of the report.
+#[test]
+fn in_its_case() {
+    for case in document_01() {
+        let (number, place, _) = case.due;
+        match check(&case.words, case.lengths.into()) {
+            Report::Accepted(_) => assert_eq!((number, place), (0, 0), "{}", case.name),
+            Report::ShortBuffer { buffer, .. } => assert_eq!((number, place), (13, buffer.number().into()), "{}", case.name),
+            Report::ShortLog { .. } => panic!("{}", case.name),
+            Report::Refused(refusal) => {
+                assert_eq!((Some(refusal.reason), refusal.place), (Reason::from_number(number), place), "{}", case.name)
+            }
+        }
+    }
+}
+
+/// Beside the longest buffers none is too short, and what is reported is the same.
 #[test]
 fn other_lengths() {
     for case in document_01() {
-        let longest = check(&case.words, Lengths::LONGEST);
-        assert_eq!(longest.needed().map(<[u64; 4]>::from), case.needed, "{}", case.name);
-        assert_eq!(longest.is_accepted(), matches!(case.number, 0 | 13), "{}", case.name);
+        let longest = told(check(&case.words, Lengths::LONGEST));
+        assert_eq!(longest.2, case.due.2, "{}", case.name);
+        assert_eq!(longest.0 == 0, matches!(case.due.0, 0 | 13), "{}", case.name);
+    }
+}
+
+/// The windows of P11: from the first byte to below the length, and empty where nothing is touched.
+#[test]
+fn windows() {
+    let Report::Accepted(reported) = check(&two_columns(3, 32, 0), Lengths::LONGEST) else { panic!() };
+    assert_eq!(Buffer::ALL.map(|buffer| reported.window(buffer)), [0..896, 0..896, 512..896, 0..0]);
+    for buffer in Buffer::ALL {
+        assert_eq!(reported.window(buffer), reported.firsts.of(buffer)..reported.lengths.of(buffer));
     }
 }
 
@@ -42,10 +58,10 @@ fn other_lengths() {
 fn decoded() {
     for case in document_01() {
         let mut log = [0xee; 50];
-        assert_eq!(decode(&case.words, case.lengths.into(), &mut log), due(&case), "{}", case.name);
+        assert_eq!(told(decode(&case.words, case.lengths.into(), &mut log)), case.due, "{}", case.name);
         let written = log.iter().rposition(|byte| *byte != 0xee).map_or(0, |last| last + 1);
         let macroblocks = if case.words.len() > 40 { 2 } else { 1 };
-        assert_eq!(written, if case.number == 0 { 24 * macroblocks } else { 0 }, "{}", case.name);
+        assert_eq!(written, if case.due.0 == 0 { 24 * macroblocks } else { 0 }, "{}", case.name);
     }
 }
 
@@ -81,7 +97,7 @@ fn in_parts() {
                 check.hand_over(&case.words[..first]);
                 check.hand_over(&case.words[first..second]);
                 check.hand_over(&case.words[second..]);
-                assert_eq!(check.report(), due(&case), "{} cut at {first} and {second}", case.name);
+                assert_eq!(told(check.report()), case.due, "{} cut at {first} and {second}", case.name);
             }
         }
         let mut by_word = Check::new(lengths);
@@ -90,6 +106,6 @@ fn in_parts() {
             by_word.hand_over(&[*word]);
             by_word.hand_over(&[]);
         }
-        assert_eq!(by_word.report(), due(&case), "{}", case.name);
+        assert_eq!(told(by_word.report()), case.due, "{}", case.name);
     }
 }

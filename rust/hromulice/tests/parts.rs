@@ -2,8 +2,8 @@
 
 mod common;
 
-use common::{p1_with, P1, P1_LENGTHS};
-use hromulice::{check, state_words, Check, Lengths, Reason, Report};
+use common::{p1_with, told, P1, P1_ACCEPTED, P1_LENGTHS};
+use hromulice::{check, state_words, Check, Lengths, Reason};
 
 fn refusal(check: &Check) -> Option<(Reason, u64)> {
     check.report().refusal().map(|refusal| (refusal.reason, refusal.place))
@@ -22,7 +22,7 @@ fn clones() {
     let mut other = one.clone();
     one.hand_over(&P1[30..]);
     other.hand_over(&[1, 0xc500_0001, 0, 0, 0, 0]);
-    assert_eq!(one.report(), Report::Accepted(P1_LENGTHS));
+    assert_eq!(told(one.report()), P1_ACCEPTED);
     assert_eq!(refusal(&other), Some((Reason::FixedBit, 30)));
 }
 
@@ -43,11 +43,11 @@ fn longest_command() {
     let mut words = vec![0x7002_003b];
     words.extend(1..61);
     words.extend(P1);
-    assert_eq!(check(&words, P1_LENGTHS), Report::Accepted(P1_LENGTHS));
+    assert_eq!(told(check(&words, P1_LENGTHS)), P1_ACCEPTED);
     for length in 1..=words.len() {
         let mut check = Check::new(P1_LENGTHS);
         words.chunks(length).for_each(|part| check.hand_over(part));
-        assert_eq!(check.report(), Report::Accepted(P1_LENGTHS), "parts of {length}");
+        assert_eq!(told(check.report()), P1_ACCEPTED, "parts of {length}");
     }
 }
 
@@ -68,7 +68,7 @@ fn may_be_sent_to_another_thread() {
         check.hand_over(&P1[20..]);
         check.report()
     });
-    assert_eq!(report.join().unwrap(), Report::Accepted(P1_LENGTHS));
+    assert_eq!(told(report.join().unwrap()), P1_ACCEPTED);
 }
 
 /// A check has the words that the library takes, and nothing else.

@@ -2,8 +2,8 @@
 
 mod common;
 
-use common::{p1_with, two_columns, vector, P1, P1_LENGTHS};
-use hromulice::{decode, read_command, write_command, Lengths, Reason, Refusal, Report, COMMAND_WORDS, RECORD_BYTES};
+use common::{p1_with, told, two_columns, vector, P1, P1_LENGTHS};
+use hromulice::{decode, read_command, write_command, Lengths, Reason, Refusal, COMMAND_WORDS, RECORD_BYTES};
 
 fn refused(reason: Reason, place: u64) -> Result<(), Refusal> {
     Err(Refusal { reason, place })
@@ -14,16 +14,16 @@ fn refused(reason: Reason, place: u64) -> Result<(), Refusal> {
 fn short_logs() {
     let words = two_columns(3, 2, 0);
     let needed = Lengths::from([896, 896, 882, 0]);
+    let reported = Some([needed.into(), [0, 0, 1, 0]]);
     for room in 0..48 {
         let mut log = vec![0xee; room];
-        assert_eq!(decode(&words, needed, &mut log), Report::ShortLog { bytes: 48, needed }, "{room}");
-        let report = decode(&words, Lengths { forward: 881, ..needed }, &mut log);
-        assert_eq!((report.number(), report.place(), report.needed()), (13, 2, Some(needed)));
+        assert_eq!(told(decode(&words, needed, &mut log)), (14, 48, reported), "{room}");
+        assert_eq!(told(decode(&words, Lengths { forward: 881, ..needed }, &mut log)), (13, 2, reported), "{room}");
         assert_eq!(log, vec![0xee; room]);
     }
     for room in 48..60 {
         let mut log = vec![0xee; room];
-        assert_eq!(decode(&words, needed, &mut log), Report::Accepted(needed));
+        assert_eq!(told(decode(&words, needed, &mut log)), (0, 0, reported), "{room}");
         assert_eq!(log[48..], vec![0xee; room - 48]);
         assert!(!log[..48].contains(&0xee));
     }

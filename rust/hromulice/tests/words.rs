@@ -1,6 +1,9 @@
 //! Numbers, their reasons, and how answers are shown.
 
-use hromulice::{Buffer, Lengths, Reason, Refusal, Report};
+mod common;
+
+use common::two_columns;
+use hromulice::{check, decode, Buffer, Lengths, Reason, Refusal, Report};
 use std::collections::BTreeSet;
 
 #[test]
@@ -27,13 +30,14 @@ fn buffers() {
 
 #[test]
 fn shown() {
-    let needed = Lengths::from([10, 11, 12, 13]);
-    let bytes = "source 10, reconstructed 11, forward 12, backward 13 bytes";
-    assert_eq!(Report::Accepted(needed).to_string(), format!("accepted; needed: {bytes}"));
-    let short = Report::ShortBuffer { buffer: Buffer::Forward, needed };
-    assert_eq!(short.to_string(), format!("refused 13, buffer 2: a picture buffer is too short; needed: {bytes}"));
-    let log = Report::ShortLog { bytes: 48, needed };
-    assert_eq!(log.to_string(), format!("refused 14, 48 needed: the lent room is too small; needed: {bytes}"));
+    let p11 = two_columns(3, 32, 0);
+    let bytes = "needed: source 896, reconstructed 896, forward 896, backward 0 bytes";
+    let windows = "touched: source 0..896, reconstructed 0..896, forward reference 512..896, backward reference none";
+    assert_eq!(check(&p11, Lengths::LONGEST).to_string(), format!("accepted; {bytes}; {windows}"));
+    let short = check(&p11, Lengths { forward: 895, ..Lengths::LONGEST });
+    assert_eq!(short.to_string(), format!("refused 13, buffer 2: a picture buffer is too short; {bytes}; {windows}"));
+    let log = decode(&p11, Lengths::LONGEST, &mut []);
+    assert_eq!(log.to_string(), format!("refused 14, 48 needed: the lent room is too small; {bytes}; {windows}"));
     let refusal = |reason, place| Refusal { reason, place };
     let refused = Report::Refused(refusal(Reason::WrongPosition, 29));
     assert_eq!(refused.to_string(), "refused 6 at word 29: a macroblock is not at its position");

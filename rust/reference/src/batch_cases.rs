@@ -14,6 +14,7 @@ use crate::batch_rules::rule_table;
 use crate::check::{check, line, Report};
 use crate::command::header;
 use crate::decode_cases;
+use crate::first_cases::firsts;
 use crate::tile_cases::tiles;
 use crate::valid_cases::valid;
 use std::collections::{BTreeSet, HashSet};
@@ -66,7 +67,7 @@ pub fn made_by(generators: &[fn(&mut Cases)]) -> Vec<Case> {
 }
 
 fn cases() -> Vec<Case> {
-    made_by(&[document, rule_table, valid, tiles, damage, faults])
+    made_by(&[document, rule_table, valid, tiles, firsts, damage, faults])
 }
 
 pub fn write(dir: &Path) -> std::io::Result<()> {
@@ -144,17 +145,19 @@ mod tests {
         assert!(numbers.into_iter().eq(0..=13));
     }
 
-    /// Demand 3, and "the four lengths are reported with 0, 13 and 14, else zeros".
+    /// Demand 3, and "the four lengths are reported with 0, 13 and 14, else zeros", and the first bytes "whenever the lengths
+    /// are". A window has a byte: the first is below the length, unless both are 0.
     #[test]
-    fn lengths() {
+    fn windows() {
         for case in cases() {
-            let Report { number, place, lengths } = case.report;
+            let Report { number, place, lengths, firsts } = case.report;
             let short = (0..4).find(|n| case.buffers[*n] < lengths[*n]);
             assert_eq!(short, (number == 13).then_some(place as usize));
-            assert!(matches!(number, 0 | 13) || lengths == [0; 4]);
+            assert!(matches!(number, 0 | 13) || case.report.reported() == [0; 8]);
+            assert!((0..4).all(|n| firsts[n] < lengths[n] || (firsts[n], lengths[n]) == (0, 0)));
             for buffers in [[0; 4], [u64::MAX; 4]] {
                 let other = check(&case.words, buffers);
-                assert_eq!(other.lengths, lengths);
+                assert_eq!(other.reported(), case.report.reported());
                 assert!(matches!(number, 0 | 13) || other == case.report);
             }
         }
@@ -164,7 +167,7 @@ mod tests {
     fn form_of_the_cases() {
         let cases = cases();
         let bytes: usize = cases.iter().map(|case| case.bytes(0).len()).sum();
-        assert!(bytes < 780_000, "{bytes}");
+        assert!(bytes < 840_000, "{bytes}");
         assert!(cases.iter().all(|case| case.words.len() <= 2000));
         let one = &cases[0].bytes(0);
         assert_eq!(one.len(), 40 + 4 * 37);

@@ -1,4 +1,4 @@
-//! Document 01's cases P1 to P13, by its own words and numbers, with document 02's lengths.
+//! Document 01's cases P1 to P13, by its own words and numbers, with document 02's lengths and first bytes.
 
 use crate::batch::{moved, rows, Frame};
 use crate::batch_cases::Cases;
@@ -37,8 +37,8 @@ fn first_seven() -> Vec<Due> {
     let one = [384, 384, 0, 0];
     let due = |words: Vec<u32>, buffers: [u64; 4], line: &'static str| Due { words, buffers, line };
     vec![
-        due(p1(), one, "accept 384 384 0 0"),
-        due(p1(), [384, 383, 0, 0], "refuse 13 1 384 384 0 0"),
+        due(p1(), one, "accept 384 384 0 0 0 0 0 0"),
+        due(p1(), [384, 383, 0, 0], "refuse 13 1 384 384 0 0 0 0 0 0"),
         due(vec![], one, "refuse 1 0"),
         due(p1()[..36].into(), one, "refuse 1 36"),
         due(vec![0x0500_0000], one, "refuse 3 0"),
@@ -47,14 +47,14 @@ fn first_seven() -> Vec<Due> {
     ]
 }
 
-/// The accepted ones with buffer 2 long enough, and one byte less.
+/// The accepted ones with buffer 2 long enough, and one byte less. Its first byte is luma's at column floor(x/2), row 0.
 fn eight_to_thirteen() -> Vec<Due> {
     let accepted = [
-        (3, 0, 384, "accept 896 896 384 0", "refuse 13 2 896 896 384 0"),
-        (3, 1, 753, "accept 896 896 753 0", "refuse 13 2 896 896 753 0"),
-        (3, 2, 882, "accept 896 896 882 0", "refuse 13 2 896 896 882 0"),
-        (3, 32, 896, "accept 896 896 896 0", "refuse 13 2 896 896 896 0"),
-        (1, 15, 888, "accept 896 896 888 0", "refuse 13 2 896 896 888 0"),
+        (3, 0, 384, "accept 896 896 384 0 0 0 0 0", "refuse 13 2 896 896 384 0 0 0 0 0"),
+        (3, 1, 753, "accept 896 896 753 0 0 0 0 0", "refuse 13 2 896 896 753 0 0 0 0 0"),
+        (3, 2, 882, "accept 896 896 882 0 0 0 1 0", "refuse 13 2 896 896 882 0 0 0 1 0"),
+        (3, 32, 896, "accept 896 896 896 0 0 0 512 0", "refuse 13 2 896 896 896 0 0 0 512 0"),
+        (1, 15, 888, "accept 896 896 888 0 0 0 7 0", "refuse 13 2 896 896 888 0 0 0 7 0"),
     ];
     let refused = [(3, 33, 0, "refuse 10 32"), (3, -1, 0, "refuse 10 32"), (3, 0, 1, "refuse 10 32"), (1, 16, 0, "refuse 9 32")];
     let mut all = Vec::new();

@@ -129,14 +129,16 @@ fn random_coded(r: &mut Random, frame: &Frame, k: u32, intra: bool) -> Command {
     c
 }
 
-/// The macroblocks of a picture, their free fields filled at random. In every fourth picture few are predicted, so that few
-/// blocks decide how long the references have to be.
+/// The macroblocks of a picture, their free fields filled at random. In half of the pictures few are predicted, here and
+/// there or from some macroblock on, so that few blocks decide which window the references have.
 fn random_macroblocks(r: &mut Random, frame: &Frame) -> Vec<(Command, End)> {
     let mut all: Vec<(Command, End)> = Vec::new();
-    let few = once_in(r, 4);
+    let (few, late) = pick(r, &[(true, false), (false, true), (false, false), (false, false)]);
+    let last = frame.macroblocks() as i64 - 1;
+    let from = if late { near_ends(r, last / 2, last) as u32 } else { 0 };
     for k in 0..frame.macroblocks() as u32 {
         let end = random_end(r, frame, k);
-        let intra = few && !once_in(r, 4);
+        let intra = k < from || (few && !once_in(r, 4));
         let may_skip = !intra && end == End::Nothing && !once_in(r, 3);
         let open = all.last().filter(|(_, before)| *before == End::Nothing && may_skip);
         let mut c = open.and_then(|(before, _)| skipped(frame, k, before)).unwrap_or_else(|| random_coded(r, frame, k, intra));

@@ -3,13 +3,23 @@
 use crate::check_macroblock::{macroblock_rules, touched, Place};
 use crate::check_picture::{picture, picture_rules, surface, surface_rules, Picture, Surface};
 use crate::command::{first_broken, header, Answer, Command, Rule, LAST_IN_GROUP};
+use crate::leaf::Window;
 
-/// Number, place and the four lengths, zeros where none are reported.
-#[derive(Clone, Copy, Debug, PartialEq, Eq)]
+/// Number and place, the four lengths and "each buffer's [...] first touched byte", zeros where they are not reported.
+#[derive(Clone, Copy, Debug, Default, PartialEq, Eq)]
 pub struct Report {
     pub number: u8,
     pub place: u64,
     pub lengths: [u64; 4],
+    pub firsts: [u64; 4],
+}
+
+impl Report {
+    /// All that is reported beside number and place, in the order in which it is printed: "after the four lengths, in the same
+    /// line".
+    pub fn reported(&self) -> Vec<u64> {
+        [self.lengths, self.firsts].concat()
+    }
 }
 
 /// What has come before a command.
@@ -23,7 +33,7 @@ struct Before {
     group: Option<usize>,
     macroblocks: usize,
     last: Option<Command>,
-    lengths: [u64; 4],
+    windows: Windows,
 }
 
 impl Before {
@@ -76,9 +86,8 @@ impl Before {
     }
 
     fn take_macroblock(&mut self, c: &Command) {
-        let ends = touched(c, &self.place());
-        for (length, end) in self.lengths.iter_mut().zip(ends) {
-            *length = end.max(*length);
+        for (buffer, window) in touched(c, &self.place()) {
+            Window::join(&mut self.windows[buffer], window);
         }
         self.macroblocks += 1;
         self.group = self.group.map(|n| n + 1).filter(|_| LAST_IN_GROUP.of(c) == 0);
@@ -86,10 +95,23 @@ impl Before {
     }
 }
 
-/// What the words alone come to, whatever the buffers: the refusal, or the four lengths.
-pub type Judged = Result<[u64; 4], Answer>;
+/// What is touched of each buffer.
+pub type Windows = [Option<Window>; 4];
 
-/// Numbers 1 to 12, or the four lengths. "Commands in order; in each 2, then 1, then 3, then words upwards."
+/// The length that each buffer must have, "still counted from byte 0": one more than its highest touched byte.
+pub fn lengths_of(windows: Windows) -> [u64; 4] {
+    windows.map(|window| window.map_or(0, |window| window.last + 1))
+}
+
+/// "Each buffer's report gives its first touched byte (0 if untouched)."
+pub fn firsts_of(windows: Windows) -> [u64; 4] {
+    windows.map(|window| window.map_or(0, |window| window.first))
+}
+
+/// What the words alone come to, whatever the buffers: the refusal, or what they touch.
+pub type Judged = Result<Windows, Answer>;
+
+/// Numbers 1 to 12, or what the batch touches. "Commands in order; in each 2, then 1, then 3, then words upwards."
 fn walk(words: &[u32]) -> Judged {
     let mut before = Before::default();
     let mut at = 0;
@@ -113,11 +135,11 @@ fn walk(words: &[u32]) -> Judged {
     // "After END only zero words may follow."
     match words[at..].iter().position(|word| *word != 0) {
         Some(further) => Err((12, at + further)),
-        None => Ok(before.lengths),
+        None => Ok(before.windows),
     }
 }
 
-/// Numbers 1 to 12 and 27 of a batch of which no word beyond the first so many is judged, or the four lengths.
+/// Numbers 1 to 12 and 27 of a batch of which no word beyond the first so many is judged, or what it touches.
 fn judge_up_to(most: usize, words: &[u32]) -> Judged {
     match walk(&words[..words.len().min(most)]) {
         Err((number, place)) if number != 1 => Err((number, place)),
@@ -135,12 +157,15 @@ pub fn judge(words: &[u32]) -> Judged {
 /// The answer to what was judged so, beside buffers of these lengths.
 pub fn beside(judged: Judged, buffers: [u64; 4]) -> Report {
     match judged {
-        Err((number, place)) => Report { number, place: place as u64, lengths: [0; 4] },
-        // "13 comes after the whole batch", at the "lowest such buffer"
-        Ok(lengths) => match (0..4).find(|&n| buffers[n] < lengths[n]) {
-            Some(lowest) => Report { number: 13, place: lowest as u64, lengths },
-            None => Report { number: 0, place: 0, lengths },
-        },
+        Err((number, place)) => Report { number, place: place as u64, ..Report::default() },
+        Ok(windows) => {
+            let (lengths, firsts) = (lengths_of(windows), firsts_of(windows));
+            // "The verdict still depends on the end alone."
+            let short = (0..4).find(|&n| buffers[n] < lengths[n]);
+            // "13 comes after the whole batch", at the "lowest such buffer"
+            let (number, place) = short.map_or((0, 0), |lowest| (13, lowest as u64));
+            Report { number, place, lengths, firsts }
+        }
     }
 }
 
@@ -155,13 +180,14 @@ pub fn check_parts(parts: &[&[u32]], buffers: [u64; 4]) -> Report {
     check(&parts.concat(), buffers)
 }
 
-/// "`accept` and the four lengths, or `refuse`, number and place, and for 13 the lengths too." The same for 14, which
-/// decoding alone gives.
+/// "`accept` and the four lengths, or `refuse`, number and place, and for 13 the lengths too", each time with what else is
+/// reported. The same for 14, which decoding alone gives.
 pub fn line(report: &Report) -> String {
-    let Report { number, place, lengths: [l0, l1, l2, l3] } = report;
+    let reported: String = report.reported().iter().map(|number| format!(" {number}")).collect();
+    let Report { number, place, .. } = report;
     match number {
-        0 => format!("accept {l0} {l1} {l2} {l3}"),
-        13 | 14 => format!("refuse {number} {place} {l0} {l1} {l2} {l3}"),
+        0 => format!("accept{reported}"),
+        13 | 14 => format!("refuse {number} {place}{reported}"),
         _ => format!("refuse {number} {place}"),
     }
 }
@@ -176,7 +202,7 @@ mod tests {
     fn parts() {
         let (words, buffers) = (p1(), [384, 383, 0, 0]);
         assert_eq!(check_parts(&[], buffers), check(&[], buffers));
-        assert_eq!(check_parts(&[&[], &[]], buffers), Report { number: 1, place: 0, lengths: [0; 4] });
+        assert_eq!(check_parts(&[&[], &[]], buffers), Report { number: 1, ..Report::default() });
         for at in 0..=words.len() {
             let (first, second) = words.split_at(at);
             assert_eq!(check_parts(&[first, &[], second], buffers), check(&words, buffers));
@@ -189,7 +215,7 @@ mod tests {
     fn too_many_words() {
         let answer = |most: usize, words: &[u32], length: u64| {
             let report = beside(judge_up_to(most, words), [length; 4]);
-            assert!(report.number == 13 || report.number == 0 || report.lengths == [0; 4]);
+            assert!(report.number == 13 || report.number == 0 || report.reported() == [0; 8]);
             (report.number, report.place)
         };
         let zeros = [&p1()[..], &[0, 0]].concat();
@@ -212,10 +238,10 @@ mod tests {
 
     #[test]
     fn lines() {
-        let report = |number, place, lengths| line(&Report { number, place, lengths });
-        assert_eq!(report(0, 0, [1, 2, 3, u64::MAX]), "accept 1 2 3 18446744073709551615");
-        assert_eq!(report(12, 345, [0; 4]), "refuse 12 345");
-        assert_eq!(report(13, 2, [4, 5, 6, 7]), "refuse 13 2 4 5 6 7");
-        assert_eq!(report(14, 24, [4, 5, 6, 7]), "refuse 14 24 4 5 6 7");
+        let report = |number, place, lengths, firsts| line(&Report { number, place, lengths, firsts });
+        assert_eq!(report(0, 0, [1, 2, 3, u64::MAX], [5, 0, 7, 8]), "accept 1 2 3 18446744073709551615 5 0 7 8");
+        assert_eq!(report(12, 345, [0; 4], [0; 4]), "refuse 12 345");
+        assert_eq!(report(13, 2, [4, 5, 6, 7], [0, 1, 2, 3]), "refuse 13 2 4 5 6 7 0 1 2 3");
+        assert_eq!(report(14, 24, [4, 5, 6, 7], [0, 1, 2, 3]), "refuse 14 24 4 5 6 7 0 1 2 3");
     }
 }

@@ -2,7 +2,7 @@
 
 use crate::check_picture::{Picture, B, I, P};
 use crate::command::*;
-use crate::leaf::Block;
+use crate::leaf::{Block, Window};
 
 /// The k-th macroblock's place in its picture.
 pub struct Place<'a> {
@@ -106,13 +106,10 @@ pub fn macroblock_rules(c: &Command, at: &Place) -> Vec<Rule> {
     all
 }
 
-/// One more than the highest byte that the macroblock touches in each buffer. "Every macroblock, skipped ones too, touches
-/// its 16×16 luma and 8×8 chroma samples in buffers 0 and 1, and its predicted blocks in 2 (forward) and 3 (backward)."
-pub fn touched(c: &Command, at: &Place) -> [u64; 4] {
-    let own = at.own().end().unwrap();
-    let mut ends = [own, own, 0, 0];
-    for (buffer, _, block) in at.predicted(c) {
-        ends[buffer] = block.end().unwrap();
-    }
-    ends
+/// The blocks of the macroblock, each with its buffer and the window of its samples there. "Every macroblock, skipped ones too,
+/// touches its 16×16 luma and 8×8 chroma samples in buffers 0 and 1, and its predicted blocks in 2 (forward) and 3 (backward)."
+pub fn touched(c: &Command, at: &Place) -> Vec<(usize, Window)> {
+    let own = at.own().window().unwrap();
+    let predicted = at.predicted(c).into_iter().map(|(buffer, _, block)| (buffer, block.window().unwrap()));
+    [(0, own), (1, own)].into_iter().chain(predicted).collect()
 }

@@ -38,7 +38,8 @@ fn log(words: &[u32], bytes: usize) -> Vec<u8> {
 }
 
 /// The answer to a batch of words beside buffers of these lengths, its records put into the lent log. "13 comes after the
-/// whole batch, 14 last", placed at the "bytes [...] needed"; "the four lengths are reported with 0, 13 and 14".
+/// whole batch, 14 last", placed at the "bytes [...] needed"; "the four lengths are reported with 0, 13 and 14", and the first
+/// bytes "whenever the lengths are".
 pub fn decode(words: &[u32], buffers: [u64; 4], lent: &mut [u8]) -> Report {
     decode_checked(check(words, buffers), words, lent)
 }
@@ -71,7 +72,7 @@ mod tests {
     #[test]
     fn document_01() {
         let mut lent = [0xee; 26];
-        assert_eq!(line(&decode(&p1(), [384, 384, 0, 0], &mut lent)), "accept 384 384 0 0");
+        assert_eq!(line(&decode(&p1(), [384, 384, 0, 0], &mut lent)), "accept 384 384 0 0 0 0 0 0");
         assert_eq!(lent[..8], [0; 8]);
         assert_eq!(lent[8..13], [0x3f, 0x00, 0x00, 0x01, 0x0f]);
         assert_eq!(lent[13..24], [0; 11]);
@@ -83,9 +84,9 @@ mod tests {
     fn thirteen_before_fourteen() {
         let mut lent = [0xee; 23];
         let mut answer = |buffers: [u64; 4]| line(&decode(&p1(), buffers, &mut lent));
-        assert_eq!(answer([384, 384, 0, 0]), "refuse 14 24 384 384 0 0");
-        assert_eq!(answer([384, 383, 0, 0]), "refuse 13 1 384 384 0 0");
-        assert_eq!(answer([u64::MAX; 4]), "refuse 14 24 384 384 0 0");
+        assert_eq!(answer([384, 384, 0, 0]), "refuse 14 24 384 384 0 0 0 0 0 0");
+        assert_eq!(answer([384, 383, 0, 0]), "refuse 13 1 384 384 0 0 0 0 0 0");
+        assert_eq!(answer([u64::MAX; 4]), "refuse 14 24 384 384 0 0 0 0 0 0");
         assert_eq!(lent, [0xee; 23]);
     }
 

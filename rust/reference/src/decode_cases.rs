@@ -1,5 +1,5 @@
 //! Cases for the decoding of a whole batch, stored behind those for the check. Before decoding, byte i of the lent log is
-//! (37·i + 11) mod 256, which is not stored. The line due is the report, with the lengths for 14 as for 13, a space, and the
+//! (37·i + 11) mod 256, which is not stored. The line due is the report, for 14 as for 13, a space, and the
 //! whole lent log afterwards in hexadecimal, `-` if it has no byte.
 
 use crate::batch_cases::Case as Batch;
@@ -117,7 +117,7 @@ mod tests {
         assert!([0, 13].iter().all(|n| of(*n, |case| case.log.len() == due(case))));
     }
 
-    /// 14 exactly where the check accepts and the room is too small, with the lengths that the check reports; else the check's
+    /// 14 exactly where the check accepts and the room is too small, with all that the check reports; else the check's
     /// own answer. So 13 comes before 14.
     #[test]
     fn the_check_and_the_room() {
@@ -189,16 +189,16 @@ mod tests {
         let cases = cases();
         let stdin: usize = cases.iter().map(|case| case.bytes().len()).sum();
         let stdout: usize = cases.iter().map(|case| case.line().len()).sum();
-        assert!(stdin < 500_000 && stdout < 700_000, "{stdin} {stdout}");
-        assert!((600..=1250).contains(&cases.len()), "{}", cases.len());
+        assert!(stdin < 520_000 && stdout < 700_000, "{stdin} {stdout}");
+        assert!((600..=1300).contains(&cases.len()), "{}", cases.len());
         assert!(cases.iter().all(|case| case.batch.words.len() <= 2000 && case.log.len() <= 2000));
         let one = &cases[0].bytes();
         assert_eq!(one.len(), 40 + 4 * 37);
         assert_eq!(one[..12], [37, 0, 0, 0, 0x80, 0x01, 0, 0, 0, 0, 0, 0]);
         assert_eq!(one[36..44], [25, 0, 0, 0, 0x04, 0, 0x01, 0x70]);
         assert_eq!(one[40 + 4 * 36..], [0, 0, 0, 0x05]);
-        assert_eq!(cases[0].line(), "accept 384 384 0 0 00000000000000003f0000010f0000000000000000000000\n");
-        assert_eq!(cases[1].line(), "refuse 14 24 384 384 0 0 -\n");
-        assert_eq!(cases[2].line(), "refuse 14 24 384 384 0 0 0b\n");
+        assert_eq!(cases[0].line(), "accept 384 384 0 0 0 0 0 0 00000000000000003f0000010f0000000000000000000000\n");
+        assert_eq!(cases[1].line(), "refuse 14 24 384 384 0 0 0 0 0 0 -\n");
+        assert_eq!(cases[2].line(), "refuse 14 24 384 384 0 0 0 0 0 0 0b\n");
     }
 }

@@ -39,10 +39,22 @@ fn tiles(cases: &mut Cases) {
     }
 }
 
+/// The batches in which the lowest byte matters, each that is accepted with room exactly enough or a byte too small.
+fn firsts(cases: &mut Cases) {
+    let accepted = made_by(&[crate::first_cases::firsts]).into_iter().filter(|case| case.report.number == 0);
+    for (n, case) in accepted.enumerate() {
+        let due = log_bytes(&case.words).unwrap();
+        // P and B go round
+        let (room, number) = [(due, 0), (due - 1, 14)][n / 2 % 2];
+        let report = cases.push(&case.words, case.buffers, room);
+        assert_eq!((report.number, report.reported()), (number, case.report.reported()));
+    }
+}
+
 /// Each type in shapes of up to 40 macroblocks, with NOOPs, carried commands, and zero words after END; far vectors in the
 /// last two shapes.
 fn shapes(cases: &mut Cases) {
-    let mut r = Random::new(31);
+    let mut r = Random::new(36);
     for (n, (columns, rows)) in [(1, 1), (2, 1), (1, 2), (3, 2), (7, 3), (13, 3), (8, 5), (40, 1), (1, 40)].iter().enumerate() {
         for sort in 1..4 {
             let mut frame = random_frame(&mut r, sort, *columns, *rows);
@@ -119,6 +131,7 @@ fn named(cases: &mut Cases) {
 pub fn valid(cases: &mut Cases) {
     checked(cases);
     tiles(cases);
+    firsts(cases);
     shapes(cases);
     between(cases);
     looks_like_macroblocks(cases);

@@ -28,6 +28,28 @@ pub fn byte_at(pitch: u32, column: u64, row: u64) -> u64 {
     (r / 32) * 32 * u64::from(pitch) + (b / 128) * 4096 + ((b % 128) / 16) * 512 + (r % 32) * 16 + b % 16
 }
 
+/// The lowest and the highest touched byte of a buffer. One that is not touched has no window.
+#[derive(Clone, Copy, Debug, PartialEq, Eq)]
+pub struct Window {
+    pub first: u64,
+    pub last: u64,
+}
+
+impl Window {
+    /// Takes one more byte into what is touched so far.
+    pub fn add(window: &mut Option<Window>, byte: u64) {
+        Window::join(window, Window { first: byte, last: byte });
+    }
+
+    /// The same for the bytes of another window.
+    pub fn join(window: &mut Option<Window>, other: Window) {
+        *window = Some(match *window {
+            Some(Window { first, last }) => Window { first: first.min(other.first), last: last.max(other.last) },
+            None => other,
+        });
+    }
+}
+
 #[derive(Clone, Copy, Debug, PartialEq, Eq)]
 pub enum Plane {
     Luma,
@@ -100,14 +122,13 @@ impl Block {
         }
     }
 
-    /// One more than the highest byte that a sample of the block stands at, or none where the luma block is not inside.
-    pub fn end(&self) -> Option<u64> {
-        if !self.inside() {
-            return None;
+    /// The lowest and the highest byte that a sample of the block stands at, or none where the luma block is not inside.
+    pub fn window(&self) -> Option<Window> {
+        let mut window = None;
+        if self.inside() {
+            self.each_sample(|_, column, row| Window::add(&mut window, byte_at(self.pitch, column, row)));
         }
-        let mut end = 0;
-        self.each_sample(|_, column, row| end = end.max(byte_at(self.pitch, column, row) + 1));
-        Some(end)
+        window
     }
 }
 

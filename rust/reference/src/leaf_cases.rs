@@ -1,6 +1,7 @@
 //! Cases for the two leaf crates: fields of a word, and blocks in a picture buffer.
 
-use crate::leaf::{bits, with_bits, word_of, Block};
+use crate::first_blocks::first_blocks;
+use crate::leaf::{bits, with_bits, word_of, Block, Window};
 use crate::random::Random;
 use crate::tile_blocks::tile_blocks;
 use std::fmt::Write as _;
@@ -10,8 +11,8 @@ impl Block {
     fn line(&self) -> String {
         let label = if self.case == 0 { String::new() } else { format!("P{} ", self.case) };
         let range = if self.in_range() { "range" } else { "beyond" };
-        match self.end() {
-            Some(end) => format!("{label}{:08x} {range} inside {end}", self.word),
+        match self.window() {
+            Some(Window { first, last }) => format!("{label}{:08x} {range} inside {} {first}", self.word, last + 1),
             None => format!("{label}{:08x} {range} outside", self.word),
         }
     }
@@ -125,6 +126,7 @@ fn blocks() -> Vec<Block> {
         ));
     }
     all.extend(tile_blocks());
+    all.extend(first_blocks());
     all
 }
 
@@ -168,20 +170,21 @@ pub fn write(dir: &Path) -> std::io::Result<()> {
 #[cfg(test)]
 mod tests {
     /// Document 01's cases P8 to P13, as far as buffer 2 and the vector go, with document 02's lengths. P13's follows from its
-    /// formula: the highest byte is Cr's at column 23, row 23, so 512 + 23·16 + 7 = 887.
+    /// formula: the highest byte is Cr's at column 23, row 23, so 512 + 23·16 + 7 = 887. The lowest byte is luma's at column
+    /// floor(x/2), row 0.
     #[test]
     fn document_01() {
         let lines: Vec<String> = super::blocks().iter().take(9).map(|b| b.line()).collect();
         let due = [
-            "P8 00000000 range inside 384",
-            "P9 00000001 range inside 753",
-            "P10 00000002 range inside 882",
-            "P11 00000020 range inside 896",
+            "P8 00000000 range inside 384 0",
+            "P9 00000001 range inside 753 0",
+            "P10 00000002 range inside 882 1",
+            "P11 00000020 range inside 896 512",
             "P12 00000021 range outside",
             "P12 0000ffff range outside",
             "P12 00010000 range outside",
-            "P13 0000000f range inside 888",
-            "P13 00000010 beyond inside 888",
+            "P13 0000000f range inside 888 7",
+            "P13 00000010 beyond inside 888 8",
         ];
         assert_eq!(lines, due);
     }

@@ -1,7 +1,7 @@
-//! A second reading of document 01, with the bytes of document 02's R-3, kept apart from the proved crates: it shares no code
-//! and no table with them. It gives the answers that the documents ask for by the plainest means: bit by bit, sample by sample,
-//! and commands found by trying them all. Beside them stand what it is asked: the stored cases, and generators of batches,
-//! commands and records.
+//! A second reading of document 01, with the bytes of document 02's, kept apart from the proved crates: it shares
+//! no code and no table with them. It gives the answers that the documents ask for by the plainest means: bit by bit, sample
+//! by sample, and commands found by trying them all. Beside them stand what it is asked: the stored cases, and generators of
+//! batches, commands and records.
 
 pub mod batch;
 pub mod batch_cases;
@@ -21,6 +21,8 @@ pub mod decode_cases;
 pub mod decode_fields;
 pub mod decode_refused;
 pub mod decode_valid;
+pub mod first_blocks;
+pub mod first_cases;
 pub mod generate;
 pub mod interface_cases;
 pub mod leaf;

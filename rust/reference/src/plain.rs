@@ -5,8 +5,8 @@
 //! A macroblock's kind and skip bit are taken apart at once, and each sort then has few tests, which end at the first one
 //! that fails (`keeps`). Only of a macroblock that breaks a rule is it asked which (`fault`).
 
-/// Number, place and the four lengths, zeros where none are reported.
-pub type Answer = (u8, u64, [u64; 4]);
+/// Number, place, the four lengths and the four first bytes, zeros where none are reported.
+pub type Answer = (u8, u64, [u64; 4], [u64; 4]);
 
 /// A number and the word where it stands.
 type Fault = (u8, usize);
@@ -40,8 +40,8 @@ fn count(header: u32) -> usize {
     }
 }
 
-/// The four lengths, or the first of 2 to 12, or 1.
-fn walk(words: &[u32]) -> Result<[u64; 4], Fault> {
+/// The four lengths and the four first bytes, or the first of 2 to 12, or 1.
+fn walk(words: &[u32]) -> Result<[[u64; 4]; 2], Fault> {
     let mut check = Check::default();
     let mut at = 0;
     while at < words.len() {
@@ -60,7 +60,7 @@ fn walk(words: &[u32]) -> Result<[u64; 4], Fault> {
             END if check.pictured && check.row == check.rows && !check.in_group => {
                 return match words[at + 1..].iter().position(|word| *word != 0) {
                     Some(further) => Err((12, at + 1 + further)),
-                    None => Ok(check.lengths()),
+                    None => Ok([check.lengths(), check.first_bytes()]),
                 };
             }
             SURFACE if !check.surfaced => check.surface(c).map_err(|(number, word)| (number, at + word))?,
@@ -107,6 +107,11 @@ struct Check {
     /// the end, and neither does its luma: that ends at most one column further than its Cr, so in no later strip than this
     /// one, and here in a row above chroma's.
     strips: [u32; 2],
+    /// Column and row of the lowest byte of any block in each reference; behind the picture's last where there is no block yet.
+    starts: [[u32; 2]; 2],
+    /// What a vector's y must be below in this row, and the column where its chroma ends, for its block to start before that.
+    early: [i32; 2],
+    left: [u32; 2],
 }
 
 const FIRST_IN_SLICE: u32 = 1 << 30;
@@ -154,6 +159,7 @@ impl Check {
         }
         let limit = |code: u32| 8 << code;
         self.limits = [[limit(codes[0]), limit(codes[1])], [limit(codes[2]), limit(codes[3])]];
+        (self.starts, self.left) = ([[right, bottom]; 2], [u32::MAX; 2]);
         self.first = FIRST_IN_SLICE;
         self.pictured = true;
         self.begin_row();
@@ -236,7 +242,15 @@ impl Check {
     fn begin_row(&mut self) {
         if self.row < self.rows {
             self.spans = self.limits.map(|[_, y]| Self::span(y, self.row, self.rows));
+            self.early = self.starts.map(|start| self.early_for(start));
         }
+    }
+
+    /// What y must be below for a block to start before this sample. In the first strip of a row of tiles each row begins 16 bytes
+    /// after the one above; all other strips come behind.
+    fn early_for(&self, [x, y]: [u32; 2]) -> i32 {
+        let row = if x < 16 { y + u32::from(x > 0) } else { (y | 31) + 1 };
+        2 * row as i32 - 32 * self.row as i32
     }
 
     /// Whether a vector is within its f code and points inside the picture.
@@ -250,15 +264,15 @@ impl Check {
     }
 
     /// Where a byte stands. A row of tiles has 32 rows and is made of strips of 16 columns, 512 bytes each, one after the other.
-    /// The byte grows with the column and with the row, so a block's last sample is its highest.
-    fn byte(&self, column: u32, row: u32) -> u64 {
+    /// The byte grows with the column and with the row, so a block's first sample is its lowest and its last its highest.
+    fn byte(&self, [column, row]: [u32; 2]) -> u64 {
         let row_of_tiles = u64::from(row >> 5) * u64::from(32 * self.pitch);
         row_of_tiles + u64::from((column >> 4) << 9 | (row & 31) << 4 | (column & 15))
     }
 
     /// Where a Cr sample stands, behind its Cb.
     fn cr(&self, [x, y]: [u32; 2]) -> u64 {
-        self.byte(2 * x + 1, self.chroma_row + y)
+        self.byte([2 * x + 1, self.chroma_row + y])
     }
 
     /// Counts a vector's blocks. With h the component v halved towards zero the chroma block starts at 8·place + floor(h/2) and
@@ -270,20 +284,42 @@ impl Check {
         let [x, y] = components(vector);
         let chroma = [last(x, self.column), last(y, self.row)];
         let strip = (self.chroma_row + chroma[1]) >> 5 << 16 | chroma[0] >> 3;
-        if strip >= self.strips[direction] {
-            self.raise(direction, [x, y], chroma, strip);
+        if strip >= self.strips[direction] || (y < self.early[direction] && chroma[0] < self.left[direction]) {
+            self.widen(direction, [x, y], chroma, strip);
         }
     }
 
-    /// The same where the end may be raised. The last sample of the luma block is 16·place + 15 + ceil(v/2).
+    /// The same where the end may be raised or the start lowered.
     #[inline(never)]
+    fn widen(&mut self, direction: usize, [x, y]: [i32; 2], chroma: [u32; 2], strip: u32) {
+        if strip >= self.strips[direction] {
+            self.raise(direction, [x, y], chroma, strip);
+        }
+        if y < self.early[direction] {
+            self.lower(direction, [x, y]);
+        }
+    }
+
+    /// The last sample of the luma block is 16·place + 15 + ceil(v/2).
     fn raise(&mut self, direction: usize, [x, y]: [i32; 2], chroma: [u32; 2], strip: u32) {
         let last = |v: i32, place: u32| (16 * place as i32 + 15 + ((v + 1) >> 1)) as u32;
-        let luma = self.byte(last(x, self.column), last(y, self.row));
+        let luma = self.byte([last(x, self.column), last(y, self.row)]);
         let end = self.cr(chroma).max(luma) + 1;
         if end > self.ends[direction] {
             self.ends[direction] = end;
             self.strips[direction] = strip;
+        }
+    }
+
+    /// Luma has the lowest byte: Cb starts in a later row, as C ≥ 16H, and in luma's strip or the next one, as it starts at most
+    /// one column before luma, and then at an even one.
+    fn lower(&mut self, direction: usize, [x, y]: [i32; 2]) {
+        let first = |v: i32, place: u32| (16 * place as i32 + (v >> 1)) as u32;
+        let start = [first(x, self.column), first(y, self.row)];
+        if self.byte(start) < self.byte(self.starts[direction]) {
+            self.starts[direction] = start;
+            self.early[direction] = self.early_for(start);
+            self.left[direction] = if start[1] < 32 { 8 * (start[0] >> 4) + 16 } else { u32::MAX };
         }
     }
 
@@ -305,7 +341,9 @@ impl Check {
         self.column += 1;
         if self.column == self.columns {
             (self.column, self.row) = (0, self.row + 1);
-            self.begin_row();
+            if CODING != I {
+                self.begin_row();
+            }
         }
     }
 
@@ -377,6 +415,12 @@ impl Check {
         let own = self.cr([8 * self.columns - 1, 8 * self.rows - 1]) + 1;
         [own, own, self.ends[0], self.ends[1]]
     }
+
+    /// The first bytes then. The first macroblock's own samples begin with byte 0.
+    fn first_bytes(&self) -> [u64; 4] {
+        let start = |direction: usize| if self.ends[direction] == 0 { 0 } else { self.byte(self.starts[direction]) };
+        [0, 0, start(0), start(1)]
+    }
 }
 
 /// 0 intra, 1 forward, 2 backward, 3 both, of a macroblock whose word 1 is permitted.
@@ -409,12 +453,12 @@ fn due(kind: u32, c: &[u32; 9]) -> [u32; 4] {
 fn check_up_to(most: usize, words: &[u32], buffers: [u64; 4]) -> Answer {
     let walked = walk(&words[..words.len().min(most)]);
     match walked {
-        Err((number, place)) if number != 1 => (number, place as u64, [0; 4]),
-        _ if words.len() > most => (27, most as u64, [0; 4]),
-        Err((number, place)) => (number, place as u64, [0; 4]),
-        Ok(lengths) => match (0..4).find(|&n| buffers[n] < lengths[n]) {
-            Some(lowest) => (13, lowest as u64, lengths),
-            None => (0, 0, lengths),
+        Err((number, place)) if number != 1 => (number, place as u64, [0; 4], [0; 4]),
+        _ if words.len() > most => (27, most as u64, [0; 4], [0; 4]),
+        Err((number, place)) => (number, place as u64, [0; 4], [0; 4]),
+        Ok([lengths, firsts]) => match (0..4).find(|&n| buffers[n] < lengths[n]) {
+            Some(lowest) => (13, lowest as u64, lengths, firsts),
+            None => (0, 0, lengths, firsts),
         },
     }
 }
@@ -441,7 +485,7 @@ mod tests {
     /// Holds the answer against the plainest reading's, and gives its number.
     fn same(words: &[u32], buffers: [u64; 4]) -> u8 {
         let due = crate::check::check(words, buffers);
-        assert_eq!(check(words, buffers), (due.number, due.place, due.lengths), "{words:x?} {buffers:?}");
+        assert_eq!(check(words, buffers), (due.number, due.place, due.lengths, due.firsts), "{words:x?} {buffers:?}");
         due.number
     }
 
@@ -513,12 +557,12 @@ mod tests {
     fn too_many_words() {
         let zeros = [&p1()[..], &[0, 0]].concat();
         let answer = |most: usize, words: &[u32]| check_up_to(most, words, [384; 4]);
-        assert_eq!(answer(39, &zeros), (0, 0, [384, 384, 0, 0]));
+        assert_eq!(answer(39, &zeros), (0, 0, [384, 384, 0, 0], [0; 4]));
         for most in 0..39 {
-            assert_eq!(answer(most, &zeros), (27, most as u64, [0; 4]));
+            assert_eq!(answer(most, &zeros), (27, most as u64, [0; 4], [0; 4]));
         }
         let late = [&zeros[..], &[7]].concat();
-        assert_eq!(answer(40, &late), (12, 39, [0; 4]));
-        assert_eq!(answer(39, &late), (27, 39, [0; 4]));
+        assert_eq!(answer(40, &late), (12, 39, [0; 4], [0; 4]));
+        assert_eq!(answer(39, &late), (27, 39, [0; 4], [0; 4]));
     }
 }

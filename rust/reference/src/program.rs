@@ -12,7 +12,7 @@ pub fn bytes_of(words: &[u32], buffers: [u64; 4]) -> Vec<u8> {
 /// words, if nothing else was refused".
 pub fn answer_to(words: &[u32], buffers: [u64; 4], leftover: usize) -> Report {
     match check(words, buffers) {
-        Report { number: 0, .. } if leftover != 0 => Report { number: 1, place: words.len() as u64, lengths: [0; 4] },
+        Report { number: 0, .. } if leftover != 0 => Report { number: 1, place: words.len() as u64, ..Report::default() },
         report => report,
     }
 }
@@ -20,7 +20,7 @@ pub fn answer_to(words: &[u32], buffers: [u64; 4], leftover: usize) -> Report {
 /// The answer to any bytes: "fewer than 32 bytes before the batch" is 16, at the "bytes read".
 pub fn answer(bytes: &[u8]) -> Report {
     let Some((lengths, batch)) = bytes.split_at_checked(32) else {
-        return Report { number: 16, place: bytes.len() as u64, lengths: [0; 4] };
+        return Report { number: 16, place: bytes.len() as u64, ..Report::default() };
     };
     let buffers: Vec<u64> = lengths.chunks(8).map(|length| u64::from_le_bytes(length.try_into().unwrap())).collect();
     let whole = batch.chunks_exact(4);
@@ -47,8 +47,8 @@ mod tests {
         assert_eq!(bytes.len(), 32 + 4 * 37);
         assert_eq!(bytes[..10], [0x80, 0x01, 0, 0, 0, 0, 0, 0, 0x80, 0x01]);
         assert_eq!(bytes[32..36], [0x04, 0x00, 0x01, 0x70]);
-        assert_eq!(line_of(&bytes), "accept 384 384 0 0");
-        assert_eq!(line_of(&bytes_of(&p1(), [384, 383, 0, 0])), "refuse 13 1 384 384 0 0");
+        assert_eq!(line_of(&bytes), "accept 384 384 0 0 0 0 0 0");
+        assert_eq!(line_of(&bytes_of(&p1(), [384, 383, 0, 0])), "refuse 13 1 384 384 0 0 0 0 0 0");
         assert_eq!(line_of(&bytes_of(&[], ENOUGH)), "refuse 1 0");
         assert_eq!(line_of(&bytes_of(&[0x0500_0000], ENOUGH)), "refuse 3 0");
     }
@@ -75,7 +75,7 @@ mod tests {
             assert_eq!(more(&[&p1()[..], &[0, 0]].concat(), ENOUGH, n), "refuse 1 39");
             assert_eq!(more(&p1()[..36], ENOUGH, n), "refuse 1 36");
             assert_eq!(more(&[], ENOUGH, n), "refuse 1 0");
-            assert_eq!(more(&p1(), [384, 383, 0, 0], n), "refuse 13 1 384 384 0 0");
+            assert_eq!(more(&p1(), [384, 383, 0, 0], n), "refuse 13 1 384 384 0 0 0 0 0 0");
             assert_eq!(more(&faulty, ENOUGH, n), "refuse 5 31");
             assert_eq!(more(&[&p1()[..], &[1]].concat(), ENOUGH, n), "refuse 12 37");
         }

@@ -1,9 +1,9 @@
-//! What tiles bring about, and which of it a block or a batch reaches. For tests that count it.
+//! What tiles bring about at the ends of a window, and which of it a block or a batch reaches. For tests that count it.
 
 use crate::check_macroblock::Place;
 use crate::check_picture::{picture, surface};
 use crate::decode::commands;
-use crate::leaf::{byte_at, Block, Plane};
+use crate::leaf::{byte_at, Block, Plane, Window};
 use std::collections::BTreeMap;
 
 pub const MARKS: [&str; 6] = [
@@ -15,69 +15,123 @@ pub const MARKS: [&str; 6] = [
     "a block has chroma in two tile rows",
 ];
 
+pub const LOWEST_MARKS: [&str; 5] = [
+    "the lowest byte is not byte 0",
+    "the lowest byte is in a later tile of its tile row",
+    "the lowest byte is in a later tile row",
+    "the lowest byte is in a later row, but in an earlier strip of its tile row",
+    "the lowest byte is in a later strip, but in an earlier tile row",
+];
+
+/// No batch has this: C ≥ 16H, and a block's first chroma column is in no earlier strip than its first luma column.
+pub const CB_LOWEST: &str = "Cb has the lowest byte";
+
+/// Which macroblock, of three or more, has the lowest byte; of several that have it, the first.
+pub const LOWEST_BY: [&str; 3] = [
+    "the first macroblock has the lowest byte",
+    "a macroblock in the middle has the lowest byte",
+    "the last macroblock has the lowest byte",
+];
+
+pub const UNTOUCHED: &str = "no byte is touched";
+
+/// A byte, with its plane, column and row.
+type Sample = (u64, Plane, u64, u64);
+
 /// What is touched of one buffer.
 #[derive(Default)]
 pub struct Touched {
-    /// The highest byte, with its plane, column and row.
-    highest: Option<(u64, Plane, u64, u64)>,
-    last_column: u64,
-    last_row: u64,
+    lowest: Option<Sample>,
+    highest: Option<Sample>,
+    /// The number of the block that has the lowest byte.
+    lowest_by: usize,
+    /// The columns and the rows that samples stand in, from the first to the last.
+    columns: Option<Window>,
+    rows: Option<Window>,
     chroma_in_two: bool,
 }
 
 impl Touched {
-    pub fn add(&mut self, block: &Block) {
-        let (mut first_tile_row, mut last_tile_row) = (u64::MAX, 0);
+    pub fn add(&mut self, number: usize, block: &Block) {
+        let mut chroma_tile_rows = None;
         block.each_sample(|plane, column, row| {
             let byte = byte_at(block.pitch, column, row);
-            if self.highest.is_none_or(|highest| highest.0 < byte) {
-                self.highest = Some((byte, plane, column, row));
+            let sample = Some((byte, plane, column, row));
+            if self.lowest.is_none_or(|lowest| byte < lowest.0) {
+                (self.lowest, self.lowest_by) = (sample, number);
             }
-            (self.last_column, self.last_row) = (self.last_column.max(column), self.last_row.max(row));
+            if self.highest.is_none_or(|highest| highest.0 < byte) {
+                self.highest = sample;
+            }
+            Window::add(&mut self.columns, column);
+            Window::add(&mut self.rows, row);
             if plane != Plane::Luma {
-                (first_tile_row, last_tile_row) = (first_tile_row.min(row / 32), last_tile_row.max(row / 32));
+                Window::add(&mut chroma_tile_rows, row / 32);
             }
         });
-        self.chroma_in_two |= first_tile_row < last_tile_row;
+        self.chroma_in_two |= chroma_tile_rows.is_some_and(|rows| rows.first < rows.last);
+    }
+
+    fn highest_marks(&self) -> Option<[bool; 6]> {
+        let ((_, plane, column, row), columns, rows) = (self.highest?, self.columns?, self.rows?);
+        Some([
+            plane == Plane::Luma,
+            row < rows.last,
+            column / 16 < columns.last / 16,
+            column == 127,
+            column >= 128,
+            self.chroma_in_two,
+        ])
+    }
+
+    fn lowest_marks(&self) -> Option<[bool; 5]> {
+        let ((byte, _, column, row), columns, rows) = (self.lowest?, self.columns?, self.rows?);
+        Some([byte != 0, column >= 128, row >= 32, row > rows.first, column / 16 > columns.first / 16])
     }
 
     /// The marks that apply.
     pub fn marks(&self) -> Vec<&'static str> {
-        let Some((_, plane, column, row)) = self.highest else { return vec![] };
-        let applies = [
-            plane == Plane::Luma,
-            row < self.last_row,
-            column / 16 < self.last_column / 16,
-            column == 127,
-            column >= 128,
-            self.chroma_in_two,
-        ];
-        MARKS.into_iter().zip(applies).filter(|mark| mark.1).map(|mark| mark.0).collect()
+        let (Some(highest), Some(lowest)) = (self.highest_marks(), self.lowest_marks()) else { return vec![UNTOUCHED] };
+        let both = MARKS.into_iter().zip(highest).chain(LOWEST_MARKS.into_iter().zip(lowest));
+        let cb = (CB_LOWEST, self.lowest.is_some_and(|lowest| lowest.1 == Plane::Cb));
+        both.chain([cb]).filter(|mark| mark.1).map(|mark| mark.0).collect()
+    }
+
+    /// The same for what so many macroblocks touch.
+    fn marks_of(&self, macroblocks: usize) -> Vec<&'static str> {
+        let by = match self.lowest_by {
+            0 => LOWEST_BY[0],
+            last if last + 1 == macroblocks => LOWEST_BY[2],
+            _ => LOWEST_BY[1],
+        };
+        let named = self.lowest.filter(|_| macroblocks >= 3).map(|_| by);
+        self.marks().into_iter().chain(named).collect()
     }
 }
 
-/// What a batch that keeps every rule touches of the four buffers.
-fn touched_by(words: &[u32]) -> [Touched; 4] {
+/// What a batch that keeps every rule touches of the four buffers, and how many macroblocks it has.
+fn touched_by(words: &[u32]) -> ([Touched; 4], usize) {
     let mut touched: [Touched; 4] = Default::default();
     let all = commands(words);
     let first = |name: &str| all.iter().find(|command| command.0 == name).unwrap().1;
     let picture = picture(&surface(first("SURFACE")), first("PICTURE"));
     for (k, (_, c)) in all.iter().filter(|command| command.0 == "MACROBLOCK").enumerate() {
         let at = Place { picture: &picture, k, before: None, first: false };
-        (0..2).for_each(|buffer| touched[buffer].add(&at.own()));
+        (0..2).for_each(|buffer| touched[buffer].add(k, &at.own()));
         for (buffer, _, block) in at.predicted((*c).try_into().unwrap()) {
-            touched[buffer].add(&block);
+            touched[buffer].add(k, &block);
         }
     }
-    touched
+    (touched, (picture.columns * picture.rows) as usize)
 }
 
 /// How many of these batches reach each mark in each buffer.
 pub fn count(batches: impl Iterator<Item = Vec<u32>>) -> BTreeMap<(usize, &'static str), usize> {
     let mut seen = BTreeMap::new();
     for words in batches {
-        for (buffer, touched) in touched_by(&words).iter().enumerate() {
-            touched.marks().iter().for_each(|mark| *seen.entry((buffer, *mark)).or_default() += 1);
+        let (touched, macroblocks) = touched_by(&words);
+        for (buffer, touched) in touched.iter().enumerate() {
+            touched.marks_of(macroblocks).iter().for_each(|mark| *seen.entry((buffer, *mark)).or_default() += 1);
         }
     }
     seen

@@ -56,10 +56,10 @@ mod tests {
     #[test]
     fn lines() {
         let lines = samples().map(|(_, bytes)| line_of(&bytes));
-        assert_eq!(lines[0], "accept 384 384 0 0");
-        assert!(lines[1].starts_with("accept ") && !lines[1].contains(" 0"), "{}", lines[1]);
+        assert_eq!(lines[0], "accept 384 384 0 0 0 0 0 0");
+        assert_eq!(lines[1], "accept 5376 5376 5236 5344 0 0 0 32");
         assert_eq!(lines[2], "refuse 10 50");
-        assert_eq!(lines[3], "refuse 13 2 896 896 882 0");
+        assert_eq!(lines[3], "refuse 13 2 896 896 882 0 0 0 1 0");
     }
 
     /// The repository's samples are these, and there are no others.

@@ -4,9 +4,10 @@ use crate::leaf::Block;
 use crate::leaf_cases::block;
 use crate::random::Random;
 
-type Size = (u32, u16, u16, u16);
+/// Pitch, C, W and H.
+pub type Size = (u32, u16, u16, u16);
 
-fn at(size: Size, place: (u16, u16), vector: (i64, i64)) -> Block {
+pub fn at(size: Size, place: (u16, u16), vector: (i64, i64)) -> Block {
     block(size, place, (9, 9), vector)
 }
 
@@ -35,16 +36,22 @@ fn far_down() -> impl Iterator<Item = Block> {
     (32757..=32762).map(|chroma_row| at((131072, chroma_row, 1, 1), (0, 0), (0, 0)))
 }
 
-fn random(r: &mut Random) -> Block {
-    let (columns, rows) = (r.within(1, 20) as u16, r.within(1, 6) as u16);
-    let pitch = (16 * u32::from(columns)).next_multiple_of(128) + 128 * r.within(0, 2) as u32;
-    let size = (pitch, 16 * rows + r.within(0, 40) as u16, columns, rows);
+/// Any place, and any vector with which its block is inside.
+pub fn random_place(r: &mut Random, size: Size) -> Block {
+    let (_, _, columns, rows) = size;
     let mut along = |n: u16| {
         let place = r.within(0, i64::from(n) - 1);
         (place as u16, r.within(-32 * place, 32 * (i64::from(n) - 1 - place)))
     };
     let ((column, x), (row, y)) = (along(columns), along(rows));
     at(size, (column, row), (x, y))
+}
+
+fn random(r: &mut Random) -> Block {
+    let (columns, rows) = (r.within(1, 20) as u16, r.within(1, 6) as u16);
+    let pitch = (16 * u32::from(columns)).next_multiple_of(128) + 128 * r.within(0, 2) as u32;
+    let size = (pitch, 16 * rows + r.within(0, 40) as u16, columns, rows);
+    random_place(r, size)
 }
 
 pub fn tile_blocks() -> Vec<Block> {
@@ -63,9 +70,9 @@ mod tests {
     fn every_mark() {
         let mut seen = MARKS.map(|_| 0);
         for b in tile_blocks() {
-            assert!(b.pitch >= 16 * u32::from(b.columns) && b.chroma_row >= 16 * b.rows && b.end().is_some());
+            assert!(b.pitch >= 16 * u32::from(b.columns) && b.chroma_row >= 16 * b.rows && b.window().is_some());
             let mut touched = Touched::default();
-            touched.add(&b);
+            touched.add(0, &b);
             let marks = touched.marks();
             (0..MARKS.len()).for_each(|n| seen[n] += u32::from(marks.contains(&MARKS[n])));
         }

@@ -6,7 +6,7 @@ use crate::leaf::word_of;
 use crate::valid_cases::both_ways;
 
 /// W, H, pitch, C, and the predicted macroblocks: each one's number k and its vector. The others are intra.
-type Reference = (u32, u32, u32, u32, &'static [(usize, i64, i64)]);
+pub type Reference = (u32, u32, u32, u32, &'static [(usize, i64, i64)]);
 
 /// Luma and chroma in one tile row. A vector of 1, 33 and so on takes luma alone to the next strip, which is higher than all
 /// chroma, unless chroma comes to the next tile row.
@@ -51,7 +51,7 @@ const TWO_BLOCKS: [Reference; 7] = [
 ];
 
 /// Forward in a P picture, or backward in a B picture.
-fn predicted(sort: u32, &(columns, lines, pitch, chroma_row, blocks): &Reference) -> Batch {
+pub fn predicted(sort: u32, &(columns, lines, pitch, chroma_row, blocks): &Reference) -> Batch {
     let frame =
         Frame { pitch, chroma_row, codes: [[5, 5, 15, 15], [5; 4]][sort as usize - 2], ..Frame::new(sort, columns, lines) };
     let mut all = vec![moved(0, 0, 0); frame.macroblocks()];

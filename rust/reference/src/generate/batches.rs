@@ -3,7 +3,7 @@
 
 use crate::batch_rules::{self, Named};
 use crate::batch_valid::{once_in, pick};
-use crate::check::{judge, Judged};
+use crate::check::{judge, lengths_of, Judged};
 use crate::command::COMMANDS;
 use crate::generate::breach::{self, Breach};
 use crate::generate::draft::Draft;
@@ -99,7 +99,7 @@ impl Batches {
     /// The words, beside lengths that are drawn about the ones needed.
     fn beside_lengths(&self, r: &mut Random, words: Vec<u32>, broken: Vec<usize>) -> Batch {
         let judged = judge(&words);
-        let buffers = lengths(r, judged.unwrap_or([384; 4]));
+        let buffers = lengths(r, judged.map_or([384; 4], lengths_of));
         Batch { words, buffers, judged, broken }
     }
 
@@ -180,7 +180,7 @@ impl Batches {
 mod tests {
     use super::*;
     use crate::batch_cases::{command_at, places_due};
-    use crate::check::beside;
+    use crate::check::{beside, Report};
     use crate::command::{header, kind, Field, LAST_IN_GROUP, LAST_IN_SLICE, SKIP};
     use std::collections::{BTreeMap, BTreeSet};
 
@@ -209,6 +209,23 @@ mod tests {
         assert_eq!(places, places_due());
         for (breach, count) in batches.breaches.iter().zip(rules) {
             assert!(count >= 20, "{}: {count}", breach.rule);
+        }
+    }
+
+    /// Of the answers with lengths at least two in five have a first byte that is not 0, and so have the refusals by 13 alone.
+    #[test]
+    fn first_bytes() {
+        let (mut r, batches) = (Random::new(50), Batches::default());
+        let (mut reported, mut short) = ([0; 2], [0; 2]);
+        for _ in 0..10_000 {
+            let batch = batches.next(&mut r);
+            let Report { number, firsts, .. } = beside(batch.judged, batch.buffers);
+            let counted = usize::from(firsts != [0; 4]);
+            reported[counted] += u32::from(matches!(number, 0 | 13));
+            short[counted] += u32::from(number == 13);
+        }
+        for [zeros, others] in [reported, short] {
+            assert!(others > 300 && 3 * others >= 2 * zeros, "{reported:?} {short:?}");
         }
     }
 

@@ -146,7 +146,7 @@ impl Draft {
 #[cfg(test)]
 mod tests {
     use super::*;
-    use crate::reached::{count, MARKS};
+    use crate::reached::{count, CB_LOWEST, LOWEST_BY, LOWEST_MARKS, MARKS, UNTOUCHED};
 
     /// In the references all that tiles bring about comes up, in dozens of batches and more. Of the own samples the last
     /// macroblock's chroma has the highest byte: no other sample has a later column or row.
@@ -162,6 +162,23 @@ mod tests {
             assert!(MARKS[..3].iter().all(|mark| of(buffer, mark) == 0), "{seen:?}");
             assert!(MARKS[3..].iter().all(|mark| of(buffer, mark) >= 150), "{seen:?}");
         }
+    }
+
+    /// In the references the lowest byte comes up wherever it may stand and whichever macroblock has it. Of those that are
+    /// touched at least two in five are not touched from byte 0 on; the own samples always are.
+    #[test]
+    fn first_bytes() {
+        let (mut r, drafts) = (Random::new(49), 10_000);
+        let seen = count((0..drafts).map(|_| Draft::new(&mut r).batch.words()));
+        let of = |buffer: usize, mark: &'static str| seen.get(&(buffer, mark)).copied().unwrap_or(0);
+        for buffer in [2, 3] {
+            assert!(LOWEST_MARKS.iter().all(|mark| of(buffer, mark) >= 15), "{seen:?}");
+            assert!(LOWEST_BY.iter().all(|mark| of(buffer, mark) >= 300), "{seen:?}");
+            let touched = drafts - of(buffer, UNTOUCHED);
+            assert!(touched < drafts && 5 * of(buffer, LOWEST_MARKS[0]) >= 2 * touched, "{seen:?}");
+        }
+        assert!((0..2).all(|buffer| of(buffer, LOWEST_MARKS[0]) == 0));
+        assert!((0..4).all(|buffer| of(buffer, CB_LOWEST) == 0));
     }
 
     /// About half of the pictures have chroma from row 64 on, and no luma byte is the highest there.
