@@ -1,11 +1,13 @@
 -- The empty extent is exact for nothing, and the join of two exact extents for what either is exact for. Laws of joins hold for all
 -- extents, also for those that touch nothing and yet name a first byte.
 use mathlib.Core.Path.{_≡_, refl, sym, ap, ap₂, subst, _∙_}
+use mathlib.Core.Bool.{Bool, cond}
 use mathlib.Core.Logic.{_⊎_, inl, inr}
 use Prim.Native.Nat.{ℕ, _+_, _≤_, _<_, min, max}
 use native.Mathlib.Nat.{le-antisymm, eq-zero-or-pos}
 use native.Mathlib.Omega.{arith}
 use borrow.Author.Tests.{eq-eqb, ne-eqb}
+use lib.Dec.{eqb}
 use Rattle.prediction.specs.Extents.{emptyExtent, joined, Exact}
 use Rattle.prediction.specs.declared.Extent.{Extent}
 use Rattle.prediction.proofs.Integers.{split}
@@ -15,17 +17,20 @@ between a b = record { first = a; end = b }
 
 -- ---- a join by what its parts touch
 module _ (a b : Extent) where
+  abbrev by-tests : Bool → Bool → Extent
+  by-tests none-right none-left = cond none-right a (cond none-left b (between (min (a .first) (b .first)) (max (a .end) (b .end))))
+
   pub join-right : b .end ≡ 0 → joined a b ≡ a
   unfolding joined
-  join-right e = rw (eq-eqb (b .end) 0 e)
+  join-right e = ap (λ (t : Bool). by-tests t (eqb (a .end) 0)) (eq-eqb (b .end) 0 e)
 
   pub join-left : 0 < b .end → a .end ≡ 0 → joined a b ≡ b
   unfolding joined
-  join-left h e = rw (ne-eqb (b .end) 0 (λ z. omega arith), eq-eqb (a .end) 0 e)
+  join-left h e = ap₂ by-tests (ne-eqb (b .end) 0 (λ z. omega arith)) (eq-eqb (a .end) 0 e)
 
   pub join-both : 0 < a .end → 0 < b .end → joined a b ≡ between (min (a .first) (b .first)) (max (a .end) (b .end))
   unfolding joined
-  join-both h k = rw (ne-eqb (b .end) 0 (λ z. omega arith), ne-eqb (a .end) 0 (λ z. omega arith))
+  join-both h k = ap₂ by-tests (ne-eqb (b .end) 0 (λ z. omega arith)) (ne-eqb (a .end) 0 (λ z. omega arith))
 
   -- The end of a join does not ask what is touched.
   pub join-end : joined a b .end ≡ max (a .end) (b .end)

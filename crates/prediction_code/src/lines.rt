@@ -112,12 +112,14 @@ pub fn reach_end(pitch: u32, chroma_row: u16, column: u16, row: u16, word: u32) 
 pub fn reach_first(surface: Surface, column: u16, row: u16, word: u32) -> u64
     ensures { λ r. ⌜ r ≡ reachOf surface (record { column = column; row = row }) word .first ⌝ }
 {
+    let pitch = surface.pitch;
+    let chroma_row = surface.chroma_row;
     let x = x_of(word);
     let y = y_of(word);
     if !starts(column, row, x, y) {
         return 0;
     }
-    blocks::block_first(surface.pitch, surface.chroma_row, column, row, x, y)
+    blocks::block_first(pitch, chroma_row, column, row, x, y)
 }
 
 // How much more than 32768 a number is.

@@ -1,5 +1,5 @@
 -- What a command that the tests let pass comes to: each of its rules holds, and what it touches is joined.
--- Proved: against the rules and the progress after them, by `accepted` (proofs/Keeping.antt) and `found-joins` (proofs/Taking.antt).
+-- Proved: against the rules and the progress after them, by `accepted` (proofs/Keeping.antt) and `found-comes` (proofs/Taking.antt).
 use mathlib.Core.Bool.{true, not, _&&_, _||_}
 use mathlib.Core.List.{List}
 use mathlib.Core.Path.{_≡_}

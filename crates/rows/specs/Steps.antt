@@ -1,5 +1,5 @@
 -- What the tests of one MACROBLOCK command find, before its rules are asked; its rules follow from it (proofs/Keeping.antt, proofs/Taking.antt).
--- Proved: against the rules, by `found-joins` (proofs/Taking.antt).
+-- Proved: against the rules, by `found-comes` (proofs/Taking.antt).
 use Prim.Native.Nat.{ℕ, _+_, max}
 use mathlib.Core.Bool.{Bool, true, _||_}
 use mathlib.Core.List.{List}
