@@ -94,9 +94,9 @@ typedef struct {
  * it, otherwise one more than the highest byte that it touches; and `firsts` is the lowest byte that it touches, 0 if it touches none.
  * With every other number all eight are 0.
  *
- * From its first byte to below its length is a buffer's window. A driver may map that alone, with byte 0 where it would be: no sample that
- * the batch has the engine read or write lies outside. Lengths are counted from byte 0 all the same, and whether a buffer is too short is
- * judged by them alone. */
+ * From its first byte to below its length is a buffer's window: no sample that the batch has the engine read or write lies outside, so that
+ * a driver can map by it, with byte 0 where it would be. Whether the engine fetches more than the samples that it uses is not said here.
+ * Lengths are counted from byte 0 all the same, and whether a buffer is too short is judged by them alone. */
 typedef struct {
     uint8_t number;
     uint64_t place;

@@ -36,7 +36,7 @@ cb-cr s x y = address-column (s .pitch) (s .«chroma_row» + y) (2 * x) (2 * x +
 
 pub block-is : (s : Surface) (at : Position) (v : Vector)
     → blockExtent s at v
-    ≡ between (min (planeExtent s at v luma .first) (planeExtent s at v cb .first)) (max (planeExtent s at v luma .end) (planeExtent s at v cr .end))
+    ≡ record { first = min (planeExtent s at v luma .first) (planeExtent s at v cb .first); end = max (planeExtent s at v luma .end) (planeExtent s at v cr .end) }
 unfolding blockExtent
 block-is s at v =
     let cx = componentIn cb (v .x) in

@@ -153,8 +153,8 @@ pub own-along : (s : Surface) (x m z y : ℕ)
     → 16 ≤ s .pitch
     → x ≤ z
     → m ≤ z
-    → joined (between (reachOf s (record { column = x; row = y }) 0 .first) (reachOf s (record { column = m; row = y }) 0 .end)) (reachOf s (record { column = z; row = y }) 0)
-    ≡ between (reachOf s (record { column = x; row = y }) 0 .first) (reachOf s (record { column = z; row = y }) 0 .end)
+    → joined (record { first = reachOf s (record { column = x; row = y }) 0 .first; end = reachOf s (record { column = m; row = y }) 0 .end }) (reachOf s (record { column = z; row = y }) 0)
+    ≡ record { first = reachOf s (record { column = x; row = y }) 0 .first; end = reachOf s (record { column = z; row = y }) 0 .end }
 own-along s x m z y wide h k =
     let first : min (ownOf s x y .first) (ownOf s z y .first) ≡ ownOf s x y .first = omega (arith, own-first s x z y h wide) in
     let end : max (ownOf s m y .end) (ownOf s z y .end) ≡ ownOf s z y .end = omega (arith, own-end s m z y k wide) in

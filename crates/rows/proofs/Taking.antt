@@ -37,7 +37,7 @@ use Rattle.rows.specs.Steps.{linesOf, isPredicted, typeIn, placeIn, reac
 use Rattle.rows.specs.Touching.{usesVector}
 use Rattle.rows.specs.Words.{lowHalf, FlagsKept, IntraKept, InterKept}
 use Rattle.rows.proofs.Keeping.{AtPlace, at-place, Typed, typed-intra, typed-inter, keeps-intra, OfKind, keeps-inter}
-use Rattle.rows.specs.Keeping.{Joins, Stands}
+use Rattle.rows.specs.Keeping.{Joins, Stands, reachBy, Comes}
 
 abbrev extents : Extent → Extent → Extent → Extent → Extents
 extents x y z w = record { source = x; reconstructed = y; forward = z; backward = w }
@@ -171,10 +171,7 @@ module _ (q : Progress) (ws : List ℕ) (placed : AtPlace q ws) where
 
 -- What the tests find of a command is true of it where the batch stands. `f` and `b` are what is touched of the references before it.
 module _ (p q : Progress) (column due : ℕ) (f b : Extent) (before ws : List ℕ) (s : Stands p column due f b before q) where
-  abbrev FoundTo : ℕ → ℕ → Type 0
-  FoundTo f′ b′ = Found p column (f .end) (b .end) ws due before f′ b′
-
-  found-place : (f′ b′ : ℕ) → FoundTo f′ b′ → AtPlace q ws
+  found-place : (f′ b′ : ℕ) → Found p column (f .end) (b .end) ws due before f′ b′ → AtPlace q ws
   found-place f′ b′ h =
       at-place q ws column (p .position .row) due (s .open-group) (s .here)
       (subst (λ (x : Picture). p .position .row < x .grid .rows) (sym (s .same-picture)) (s .in-rows))
@@ -196,29 +193,15 @@ module _ (p q : Progress) (column due : ℕ) (f b : Extent) (before ws : List �
   coding-is : (P : ℕ → Type 0) → P (p .picture .coding) → P (q .picture .coding)
   coding-is P h = subst (λ (x : Picture). P (x .coding)) (sym (s .same-picture)) h
 
-  -- what a command touches of a reference, in the names of the row: its reach if its type has a vector to it, else nothing
-  abbrev forwardBy : Extent
-  forwardBy = cond (usesVector 0x100 (wordAt ws 1)) (reachIn p column (wordAt ws 5)) emptyExtent
-
-  abbrev backwardBy : Extent
-  backwardBy = cond (usesVector 0x200 (wordAt ws 1)) (reachIn p column (wordAt ws 6)) emptyExtent
-
+  -- by the type of the command
   by-type : (alone type : ℕ) (r : Extent) → typeIn ws ≡ type → cond (usesVector alone (wordAt ws 1)) r emptyExtent ≡ cond (eqb type alone || eqb type 0x300) r emptyExtent
   by-type alone type r e = ap (λ (x : ℕ). cond (eqb x alone || eqb x 0x300) r emptyExtent) e
 
-  -- What the tests found of a command: its rules hold, and both references are joined with what it touches, whose ends were found.
-  pub record Comes (f′ b′ : ℕ) : Type 0 where
-    pub joins : Joins q ws (joined f forwardBy) (joined b backwardBy)
-    pub forward-end : f′ ≡ joined f forwardBy .end
-    pub backward-end : b′ ≡ joined b backwardBy .end
-    pub forward-fits : usesVector 0x100 (wordAt ws 1) ≡ true → ForwardFits p column (wordAt ws 5)
-    pub backward-fits : usesVector 0x200 (wordAt ws 1) ≡ true → BackwardFits p column (wordAt ws 6)
-
   -- from what each kind touches
-  comes : {f′ b′ : ℕ} (e h : Extent) → forwardBy ≡ e → backwardBy ≡ h → Joins q ws (joined (q .extents .forward) e) (joined (q .extents .backward) h)
+  comes : {f′ b′ : ℕ} (e h : Extent) → reachBy 0x100 5 p column ws ≡ e → reachBy 0x200 6 p column ws ≡ h → Joins q ws (joined (q .extents .forward) e) (joined (q .extents .backward) h)
       → f′ ≡ max (f .end) (e .end) → b′ ≡ max (b .end) (h .end)
       → (usesVector 0x100 (wordAt ws 1) ≡ true → ForwardFits p column (wordAt ws 5)) → (usesVector 0x200 (wordAt ws 1) ≡ true → BackwardFits p column (wordAt ws 6))
-      → Comes f′ b′
+      → Comes p q column f b ws f′ b′
   comes e h ee eh j ef eb uf ub =
       record {
         joins = subst₂ (Joins q ws) (ap₂ joined (s .forward-is) (sym ee)) (ap₂ joined (s .backward-is) (sym eh)) j;
@@ -228,7 +211,7 @@ module _ (p q : Progress) (column due : ℕ) (f b : Extent) (before ws : List �
         backward-fits = ub;
       }
 
-  pub found-comes : (f′ b′ : ℕ) → FoundTo f′ b′ → Comes f′ b′
+  pub found-comes : (f′ b′ : ℕ) → Found p column (f .end) (b .end) ws due before f′ b′ → Comes p q column f b ws f′ b′
   found-comes f′ b′ h = by (h .coded)
     where
       placed : AtPlace q ws
@@ -254,7 +237,7 @@ module _ (p q : Progress) (column due : ℕ) (f b : Extent) (before ws : List �
       nothing-more n = omega (arith, empty-end)
 
       inter : InterKept (p .picture .coding) before ws
-          → ForwardFound p column (f .end) (b .end) ws f′ b′ ⊎ (BackwardFound p column (f .end) (b .end) ws f′ b′ ⊎ BothFound p column (f .end) (b .end) ws f′ b′) → Comes f′ b′
+          → ForwardFound p column (f .end) (b .end) ws f′ b′ ⊎ (BackwardFound p column (f .end) (b .end) ws f′ b′ ⊎ BothFound p column (f .end) (b .end) ws f′ b′) → Comes p q column f b ws f′ b′
       inter k (inl x) =
           let predicted : isPredicted (q .picture .coding) ≡ true = coding-is (λ (y : ℕ). isPredicted y ≡ true) (x .coding) in
           let five = reachIn p column (wordAt ws 5) in
@@ -277,7 +260,7 @@ module _ (p q : Progress) (column due : ℕ) (f b : Extent) (before ws : List �
       by : IntraFound p column (f .end) (b .end) ws f′ b′
           ⊎ (InterKept (p .picture .coding) before ws
           × (ForwardFound p column (f .end) (b .end) ws f′ b′ ⊎ (BackwardFound p column (f .end) (b .end) ws f′ b′ ⊎ BothFound p column (f .end) (b .end) ws f′ b′)))
-          → Comes f′ b′
+          → Comes p q column f b ws f′ b′
       by (inl x) =
           let type : typeIn ws ≡ 0x3a00 = ap (λ (l : ℕ). withBits l 2 2 0) (x .type) in
           comes emptyExtent emptyExtent (by-type 0x100 0x3a00 (reachIn p column (wordAt ws 5)) type) (by-type 0x200 0x3a00 (reachIn p column (wordAt ws 6)) type)

@@ -119,7 +119,7 @@ module _ (alone word : ℕ) (s : Surface) (at : Position) (ws : List ℕ) where
         )
     stays-next k h false u before = subst (λ (z : Extent). (0 < z .end) × (z .first ≡ e .first)) (sym (uses-none k e u)) before
 
-    pub after-above : (k : ℕ) → k ≤ n → Stays k
+    pub after-above : (k : ℕ) → k ≤ n → (0 < touchedAfter alone word s at ws k e .end) × (touchedAfter alone word s at ws k e .first ≡ e .first)
     after-above zero h = (some, refl)
     after-above (suc k) h =
         let one : k + 1 ≡ suc k = omega arith in

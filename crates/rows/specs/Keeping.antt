@@ -1,6 +1,6 @@
 -- What a command that the tests let pass comes to: each of its rules holds, and what it touches is joined.
 -- Proved: against the rules and the progress after them, by `accepted` (proofs/Keeping.antt) and `found-comes` (proofs/Taking.antt).
-use mathlib.Core.Bool.{true, not, _&&_, _||_}
+use mathlib.Core.Bool.{true, cond, not, _&&_, _||_}
 use mathlib.Core.List.{List}
 use mathlib.Core.Path.{_≡_}
 use Prim.Native.Nat.{ℕ, _-_, _<_}
@@ -12,12 +12,13 @@ use Rattle.placement.specs.Blocks.{blocksOf}
 use Rattle.placement.specs.Placing.{inSequence, codingPermits, skipPermitted, atPosition, conversionPermitted, flagsAgree}
 use Rattle.progress.specs.declared.Progress.{Progress}
 use lib.ListN.{length}
-use Rattle.prediction.specs.Extents.{joined}
+use Rattle.prediction.specs.Extents.{emptyExtent, joined}
 use Rattle.prediction.specs.declared.Extent.{Extent}
 use Rattle.macroblock.specs.declared.Flags.{Flags}
 use Rattle.placement.specs.Progressing.{stageAfter}
 use Rattle.rows.specs.Rows.{previousIn, ownIn}
-use Rattle.rows.specs.Steps.{placeIn, reachIn}
+use Rattle.rows.specs.Steps.{placeIn, reachIn, ForwardFits, BackwardFits}
+use Rattle.rows.specs.Touching.{usesVector}
 use Rattle.rows.specs.Words.{dueBits}
 
 -- Every rule of a command where it comes, one by one.
@@ -67,3 +68,16 @@ pub record Stands (p : Progress) (column due : ℕ) (f b : Extent) (before : Lis
   pub reconstructed-next : joined (q .extents .reconstructed) (reachIn p column 0) ≡ joined (p .extents .reconstructed) (ownIn p column)
   pub forward-is : q .extents .forward ≡ f
   pub backward-is : q .extents .backward ≡ b
+
+-- What a command at a column touches of the reference whose vectors stand in a word: its reach if its type has a vector to it, else nothing.
+abbrev pub reachBy : ℕ → ℕ → Progress → ℕ → List ℕ → Extent
+reachBy alone word p column ws = cond (usesVector alone (wordAt ws 1)) (reachIn p column (wordAt ws word)) emptyExtent
+
+-- What a command comes to whose tests found the ends `f′` and `b′`: its rules hold, and what is touched of both references, `f` and `b` before it, is
+-- joined with what it touches of them.
+pub record Comes (p q : Progress) (column : ℕ) (f b : Extent) (ws : List ℕ) (f′ b′ : ℕ) : Type 0 where
+  pub joins : Joins q ws (joined f (reachBy 0x100 5 p column ws)) (joined b (reachBy 0x200 6 p column ws))
+  pub forward-end : f′ ≡ joined f (reachBy 0x100 5 p column ws) .end
+  pub backward-end : b′ ≡ joined b (reachBy 0x200 6 p column ws) .end
+  pub forward-fits : usesVector 0x100 (wordAt ws 1) ≡ true → ForwardFits p column (wordAt ws 5)
+  pub backward-fits : usesVector 0x200 (wordAt ws 1) ≡ true → BackwardFits p column (wordAt ws 6)

@@ -7,6 +7,7 @@ struct Answer {
     number: u64,
     place: u64,
     lengths: [u64; 4],
+    firsts: [u64; 4],
 }
 
 extern "C" {
@@ -16,7 +17,7 @@ extern "C" {
 
 impl From<Answer> for Report {
     fn from(answer: Answer) -> Report {
-        Report { number: answer.number as u8, place: answer.place, lengths: answer.lengths }
+        Report { number: answer.number as u8, place: answer.place, lengths: answer.lengths, firsts: answer.firsts }
     }
 }
 

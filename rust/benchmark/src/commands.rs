@@ -9,7 +9,7 @@ pub const CARRIED: [(u32, usize); 6] =
     [(0x7000_0003, 5), (0x7002_003b, 61), (0x7003_0018, 26), (0x7004_0008, 10), (0x7007_0010, 18), (0x7008_0020, 34)];
 
 /// The picture that the commands are added to: 120 by 68 macroblocks, type P.
-pub const PICTURE: Picture = Picture { coding: 2, columns: 120, rows: 68 };
+pub const PICTURE: Picture = Picture::new(2, 120, 68);
 
 /// The words of a batch with so many NOOPs before each command that is chosen by its number among those of its name.
 fn with_noops(name: &str, chosen: impl Fn(usize) -> usize) -> Vec<u32> {

@@ -29,7 +29,7 @@ impl Work {
         }
     }
 
-    /// Fails unless every batch is accepted by all of CONTENDERS and by these, with the same lengths.
+    /// Fails unless every batch is accepted by all of CONTENDERS and by these, with the same lengths and first bytes.
     pub fn agree(&mut self, others: &[Contender]) {
         for words in &self.batches {
             let due = (CONTENDERS[PLAIN].call)(words, &mut self.log);
@@ -41,11 +41,13 @@ impl Work {
     }
 }
 
+/// Number, place, the four lengths and the four first bytes, or a sum in their place.
+pub type Figures = [u64; 10];
+
 #[derive(Clone, Copy)]
 pub struct Contender {
     pub name: &'static str,
-    /// Number, place and the four lengths, or a sum in their place.
-    pub call: fn(&[u32], &mut [u8]) -> [u64; 6],
+    pub call: fn(&[u32], &mut [u8]) -> Figures,
 }
 
 /// By their place in CONTENDERS.
@@ -66,44 +68,48 @@ pub const CONTENDERS: [Contender; 6] = [
     Contender { name: "decode", call: decode },
 ];
 
-#[inline(never)]
-fn sum(words: &[u32], _: &mut [u8]) -> [u64; 6] {
-    [words.iter().fold(0, |sum: u64, word| sum.wrapping_add((*word).into())), 0, 0, 0, 0, 0]
+fn figures(number: u8, place: u64, [l0, l1, l2, l3]: [u64; 4], [f0, f1, f2, f3]: [u64; 4]) -> Figures {
+    [number.into(), place, l0, l1, l2, l3, f0, f1, f2, f3]
 }
 
 #[inline(never)]
-fn c(words: &[u32], _: &mut [u8]) -> [u64; 6] {
-    let Report { number, place, lengths: [l0, l1, l2, l3] } = batch_check::check(words, [u64::MAX; 4]);
-    [number.into(), place, l0, l1, l2, l3]
+fn sum(words: &[u32], _: &mut [u8]) -> Figures {
+    [words.iter().fold(0, |sum: u64, word| sum.wrapping_add((*word).into())), 0, 0, 0, 0, 0, 0, 0, 0, 0]
 }
 
 #[inline(never)]
-fn plain_check(words: &[u32], _: &mut [u8]) -> [u64; 6] {
-    let (number, place, [l0, l1, l2, l3]) = plain::check(words, [u64::MAX; 4]);
-    [number.into(), place, l0, l1, l2, l3]
-}
-
-fn figures(report: hromulice::Report) -> [u64; 6] {
-    let [l0, l1, l2, l3] = report.needed().unwrap_or(Lengths::NONE).into();
-    [report.number().into(), report.place(), l0, l1, l2, l3]
+fn c(words: &[u32], _: &mut [u8]) -> Figures {
+    let Report { number, place, lengths, firsts } = batch_check::check(words, [u64::MAX; 4]);
+    figures(number, place, lengths, firsts)
 }
 
 #[inline(never)]
-fn check(words: &[u32], _: &mut [u8]) -> [u64; 6] {
-    figures(hromulice::check(words, Lengths::LONGEST))
+fn plain_check(words: &[u32], _: &mut [u8]) -> Figures {
+    let (number, place, lengths, firsts) = plain::check(words, [u64::MAX; 4]);
+    figures(number, place, lengths, firsts)
+}
+
+fn proved(report: hromulice::Report) -> Figures {
+    let (lengths, firsts) = report.reported().map_or((Lengths::NONE, Lengths::NONE), |all| (all.lengths, all.firsts));
+    figures(report.number(), report.place(), lengths.into(), firsts.into())
+}
+
+#[inline(never)]
+fn check(words: &[u32], _: &mut [u8]) -> Figures {
+    proved(hromulice::check(words, Lengths::LONGEST))
 }
 
 /// In parts of so many words.
 #[inline(never)]
-pub fn parts<const WORDS: usize>(words: &[u32], _: &mut [u8]) -> [u64; 6] {
+pub fn parts<const WORDS: usize>(words: &[u32], _: &mut [u8]) -> Figures {
     let mut check = Check::new(Lengths::LONGEST);
     for part in words.chunks(WORDS) {
         check.hand_over(part);
     }
-    figures(check.report())
+    proved(check.report())
 }
 
 #[inline(never)]
-fn decode(words: &[u32], log: &mut [u8]) -> [u64; 6] {
-    figures(hromulice::decode(words, Lengths::LONGEST, log))
+fn decode(words: &[u32], log: &mut [u8]) -> Figures {
+    proved(hromulice::decode(words, Lengths::LONGEST, log))
 }

@@ -87,7 +87,7 @@ fn carried() {
 
 /// The check whole and in parts of several sizes.
 fn small_parts() {
-    const LARGE: Picture = Picture { coding: 2, columns: 256, rows: 175 };
+    const LARGE: Picture = Picture::new(2, 256, 175);
     const WHOLE: Contender = CONTENDERS[CHECK];
     let sizes: [(usize, Contender); 4] = [
         (64, Contender { name: "64", call: parts::<64> }),

@@ -1,6 +1,6 @@
 //! tests/benchmark/run builds and starts this.
 //!
-//!     benchmark tables                 speed on nine pictures, growth, and with cleared caches
+//!     benchmark tables                 speed on nine pictures, growth, with cleared caches, on low pictures and far vectors
 //!     benchmark details                NOOPs, carried commands, small parts
 //!     benchmark program CHECKER DIR    the program CHECKER, with inputs stored in DIR
 //!     benchmark repeat NAME BATCH N    N calls of one contender on a batch, for counting instructions
@@ -18,7 +18,7 @@ use std::process::ExitCode;
 const ADDED: usize = 10_000;
 
 fn batch(name: &str) -> Option<Work> {
-    let large = |coding| Picture { coding, columns: 256, rows: 175 }.several();
+    let large = |coding| Picture::new(coding, 256, 175).several();
     let added = |words| Work::one(words, PICTURE.macroblocks());
     match name {
         "I" => Some(large(1)),

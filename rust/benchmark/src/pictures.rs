@@ -14,20 +14,18 @@ fn within(r: &mut Random, low: i32, high: i32) -> i32 {
     r.within(low.into(), high.into()) as i32
 }
 
-/// A picture type and the size in macroblocks.
+/// A picture type, the size in macroblocks, and the f code of every component that has one.
 #[derive(Clone, Copy)]
 pub struct Picture {
     /// 1 I, 2 P, 3 B.
     pub coding: u32,
     pub columns: u32,
     pub rows: u32,
+    pub f_code: u32,
 }
 
 /// As many macroblocks as the largest picture has.
 const MACROBLOCKS: u32 = 256 * 175;
-
-/// The f code of every component that has one: vectors from −128 to 127 half samples.
-const F_CODE: u32 = 4;
 
 /// Macroblocks of a coded picture: how many of a hundred are intra, and how many repeat the one before as skipped.
 const INTRA: [u64; 3] = [100, 12, 6];
@@ -40,6 +38,11 @@ impl fmt::Display for Picture {
 }
 
 impl Picture {
+    /// With f code 4: vectors from −128 to 127 half samples.
+    pub const fn new(coding: u32, columns: u32, rows: u32) -> Picture {
+        Picture { coding, columns, rows, f_code: 4 }
+    }
+
     pub fn name(&self) -> &'static str {
         ["I", "P", "B"][self.coding as usize - 1]
     }
@@ -59,7 +62,7 @@ impl Picture {
     fn state(&self) -> Vec<u32> {
         let (width, height) = (16 * self.columns, 16 * self.rows);
         let pitch = width.next_multiple_of(128);
-        let codes = [0xffff, 0xff00 | (F_CODE * 0x11), F_CODE * 0x1111][self.coding as usize - 1];
+        let codes = [0xffff, 0xff00 | (self.f_code * 0x11), self.f_code * 0x1111][self.coding as usize - 1];
         let mut words = vec![0x7001_0004, 0, (height - 1) << 18 | (width - 1) << 4, 0x4800_0003 | (pitch - 1) << 3, height, 0];
         words.extend([0x7300_000b, codes << 16 | 0x3400, self.coding << 9, (self.rows - 1) << 16 | (self.columns - 1)]);
         words.extend([0; 9]);
@@ -113,20 +116,20 @@ impl Picture {
     }
 
     /// The values that a component may have at a place in a line of n macroblocks.
-    fn span(place: u32, n: u32) -> (i32, i32) {
-        let limit = 8 << F_CODE;
+    fn span(&self, place: u32, n: u32) -> (i32, i32) {
+        let limit = 8 << self.f_code;
         ((-limit).max(-32 * place as i32), (limit - 1).min(32 * (n - 1 - place) as i32))
     }
 
     fn vector(&self, r: &mut Random, column: u32, row: u32) -> (i32, i32) {
         let mut component = |(low, high): (i32, i32)| within(r, low, high);
-        (component(Self::span(column, self.columns)), component(Self::span(row, self.rows)))
+        (component(self.span(column, self.columns)), component(self.span(row, self.rows)))
     }
 
     /// What a skipped macroblock may be here: unmoved in P, like the one before in B.
     fn repeated(&self, before: Prediction, column: u32, row: u32) -> Option<Prediction> {
         let fits = |(x, y): (i32, i32)| {
-            let ((left, right), (top, bottom)) = (Self::span(column, self.columns), Self::span(row, self.rows));
+            let ((left, right), (top, bottom)) = (self.span(column, self.columns), self.span(row, self.rows));
             (left..=right).contains(&x) && (top..=bottom).contains(&y)
         };
         match (self.coding, before) {

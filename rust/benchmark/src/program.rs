@@ -17,7 +17,7 @@ const RUNS_ON_PICTURES: u32 = 100;
 /// A batch of so many bytes less the lengths before it: carried commands and NOOPs, and at its end a P picture.
 fn filled(bytes: usize) -> Vec<u32> {
     let (columns, rows) = if bytes < 2_000_000 { (120, 68) } else { (256, 175) };
-    let picture = Picture { coding: 2, columns, rows }.words(0);
+    let picture = Picture::new(2, columns, rows).words(0);
     let mut words = filling((bytes - 32) / 4 - picture.len());
     words.extend(picture);
     words
@@ -80,8 +80,8 @@ impl Runs<'_> {
     /// The program on these words, which are stored, and the check of them, so many times in turn.
     fn times(&self, words: &[u32], runs: u32) -> Result<Times> {
         let bytes = self.store(words)?;
-        let [_, _, l0, l1, l2, l3] = (CONTENDERS[CHECK].call)(words, &mut []);
-        let line = format!("accept {l0} {l1} {l2} {l3}\n");
+        let [_, _, reported @ ..] = (CONTENDERS[CHECK].call)(words, &mut []);
+        let line = format!("accept{}\n", reported.map(|number| format!(" {number}")).concat());
         let mut least = Times { program: f64::INFINITY, check: f64::INFINITY, bytes };
         for _ in 0..runs {
             least.program = least.program.min(timed(|| self.expect(&line))?);
@@ -124,7 +124,7 @@ fn pictures(runs: &Runs) -> Result<()> {
     Times::heading("picture", "without start");
     for (columns, rows) in [(120, 68), (256, 175)] {
         for coding in 1..4 {
-            let picture = Picture { coding, columns, rows };
+            let picture = Picture::new(coding, columns, rows);
             let times = runs.times(&picture.words(0), RUNS_ON_PICTURES)?;
             times.print(&picture.to_string(), format!("{:.2}", (times.program - start) / times.check));
         }

@@ -10,6 +10,9 @@ const SIZES: [(u32, u32); 3] = [(45, 36), (120, 68), (256, 175)];
 /// Chroma begins in row 32, with a row of tiles, and in row 48, within one: there a luma byte can be the highest.
 const LOW_SIZES: [(u32, u32); 2] = [(120, 2), (120, 3)];
 
+/// The f code of far vectors: from −4096 to 4095 half samples.
+const FAR: u32 = 9;
+
 const ROUNDS: u32 = 100;
 const CLEARED_ROUNDS: u32 = 10;
 
@@ -24,17 +27,35 @@ const RATIOS: [(&str, usize, usize); 7] = [
     ("check/sum", CHECK, SUM),
 ];
 
-/// Pictures of each type in these sizes, and their times.
-fn measured<const N: usize>(sizes: [(u32, u32); N]) -> (Vec<Picture>, Vec<Sample>) {
-    let all = (1..4).flat_map(|coding| sizes.map(|(columns, rows)| Picture { coding, columns, rows }));
-    let pictures: Vec<Picture> = all.collect();
+/// Pictures of each type in these sizes.
+fn pictures<const N: usize>(sizes: [(u32, u32); N]) -> Vec<Picture> {
+    (1..4).flat_map(|coding| sizes.map(|(columns, rows)| Picture::new(coding, columns, rows))).collect()
+}
+
+/// Their times.
+fn measured(pictures: &[Picture]) -> Vec<Sample> {
     let mut samples: Vec<Sample> = pictures.iter().map(|picture| Sample::new(picture.several(), &CONTENDERS)).collect();
     measure(&mut samples, ROUNDS, || {});
-    (pictures, samples)
+    samples
+}
+
+/// Pictures that are not like most.
+fn print_others() {
+    let low = pictures(LOW_SIZES);
+    println!();
+    println!("Low pictures, as in the first table. With three rows of macroblocks a luma byte can be the highest.");
+    table(&low, &measured(&low));
+
+    let predicted = pictures(SIZES).into_iter().filter(|picture| picture.coding != 1);
+    let far: Vec<Picture> = predicted.map(|picture| Picture { f_code: FAR, ..picture }).collect();
+    println!();
+    println!("Far vectors, as in the first table, with f code {FAR}: a block may start nearly anywhere in the picture.");
+    table(&far, &measured(&far));
 }
 
 pub fn print() {
-    let (pictures, samples) = measured(SIZES);
+    let pictures = pictures(SIZES);
+    let samples = measured(&pictures);
     println!("Pictures: millions of words a second, and ratios of times; the least of {} runs of each, in turn.", 2 * ROUNDS);
     println!("Buffers not cleared first: the words and the log are in memory and in what cache holds them from the run before.");
     table(&pictures, &samples);
@@ -48,11 +69,7 @@ pub fn print() {
     println!();
     println!("The same with the caches cleared before each run, the least of {} runs.", 2 * CLEARED_ROUNDS);
     table(&pictures, &samples);
-
-    let (pictures, samples) = measured(LOW_SIZES);
-    println!();
-    println!("Low pictures, as in the first table. With three rows of macroblocks a luma byte can be the highest.");
-    table(&pictures, &samples);
+    print_others();
 }
 
 fn table(pictures: &[Picture], samples: &[Sample]) {

@@ -1,4 +1,4 @@
-//! The checker in C gives the second program's answers: number, place and the four lengths.
+//! The checker in C gives the second program's answers: number, place, the four lengths and the four first bytes.
 
 use benchmark::batch_check::{check, check_up_to};
 use benchmark::pictures::Picture;
@@ -9,7 +9,7 @@ use reference::batch_document::{document, p1};
 use reference::batch_faults::faults;
 use reference::batch_rules::rule_table;
 use reference::batch_valid::pick;
-use reference::check::{beside, judge, Judged, Report};
+use reference::check::{beside, judge, lengths_of, Judged, Report};
 use reference::command::COMMANDS;
 use reference::command_cases::plain;
 use reference::generate::batches::Batches;
@@ -29,7 +29,7 @@ fn same(words: &[u32], buffers: [u64; 4], judged: Judged) -> u8 {
 /// The same beside lengths as they are needed, a byte more and a byte less in each buffer, none, and the longest.
 fn same_beside_all(words: &[u32]) -> u8 {
     let judged = judge(words);
-    let exact = judged.unwrap_or([384; 4]);
+    let exact = judged.map_or([384; 4], lengths_of);
     for n in 0..4 {
         let with = |length: u64| std::array::from_fn(|m| if m == n { length } else { exact[m] });
         same(words, with(exact[n].saturating_sub(1)), judged);
@@ -115,7 +115,7 @@ fn changed_words() {
             words[at..=last].iter_mut().filter(|word| **word == old).for_each(|word| *word = new);
         }
         let judged = judge(&words);
-        *numbers.entry(same(&words, judged.unwrap_or([0; 4]), judged)).or_default() += 1;
+        *numbers.entry(same(&words, judged.map_or([0; 4], lengths_of), judged)).or_default() += 1;
     }
     assert!(numbers.keys().copied().eq(0..=12) && numbers.values().all(|count| *count >= 10), "{numbers:?}");
 }
@@ -154,8 +154,7 @@ fn runs_of_noops() {
     }
 }
 
-/// Every vector that a macroblock in the middle of a picture may have and many that it may not, both ways; the lengths are
-/// those of one block.
+/// Every vector that a macroblock in the middle of a picture may have and many that it may not, both ways; one block is touched.
 #[test]
 fn vectors() {
     let frame = Frame { codes: [3; 4], ..Frame::new(3, 3, 3) };
@@ -167,19 +166,20 @@ fn vectors() {
             let words = rows(&frame, &macroblocks).words();
             let judged = judge(&words);
             let number = same(&words, [u64::MAX; 4], judged);
-            assert_eq!(number == 0, judged.is_ok_and(|lengths| lengths[direction] > 0), "{x} {y}");
+            assert_eq!(number == 0, judged.is_ok_and(|windows| windows[direction].is_some()), "{x} {y}");
         }
     }
 }
 
-/// Pictures of so many macroblocks that the lengths are raised by blocks in many rows: the benchmark's own, and ones of any pitch
-/// and first chroma row.
+/// Pictures of so many macroblocks that the lengths are raised by blocks in many rows, and the first bytes lowered by several: the
+/// benchmark's own, with near and far vectors, and ones of any pitch and first chroma row.
 #[test]
 fn large_pictures() {
     let mut r = Random::new(74);
     for seed in 0..6 {
         for coding in 1..4 {
-            let words = Picture { coding, columns: 30, rows: 20 }.words(seed);
+            let near = Picture::new(coding, 30, 20);
+            let words = Picture { f_code: [4, 1, 9][seed as usize % 3], ..near }.words(seed);
             assert_eq!(same_beside_all(&words), 0);
         }
     }
@@ -198,8 +198,8 @@ fn large_pictures() {
 #[test]
 fn too_many_words() {
     let (exact, zeros) = (needed(&p1()), [&p1()[..], &[0, 0]].concat());
-    let refused = |number: u8, place: u64| Report { number, place, lengths: [0; 4] };
-    assert_eq!(check_up_to(39, &zeros, exact), Report { number: 0, place: 0, lengths: exact });
+    let refused = |number: u8, place: u64| Report { number, place, ..Report::default() };
+    assert_eq!(check_up_to(39, &zeros, exact), Report { lengths: exact, ..Report::default() });
     for most in 0..39 {
         assert_eq!(check_up_to(most, &zeros, [0; 4]), refused(27, most as u64));
     }

@@ -1,57 +1,21 @@
-//! Lengths by Y tiles: the checker in C and the plain one give the second program's where luma is the highest byte, at the
-//! borders of tiles and strips, and whichever block comes first.
+//! Lengths and first bytes by Y tiles: the checker in C and the plain one give the second program's where luma is the highest
+//! byte, at the borders of tiles and strips, and whichever block comes first.
 
-use benchmark::batch_check;
-use reference::batch::{moved, rows, Frame};
+mod held;
+
+use held::{frame, held, picture, spans};
+use reference::batch::Frame;
 use reference::batch_valid::{inside, near_ends, pick};
-use reference::check::{beside, judge, Report};
-use reference::command::Command;
-use reference::command_cases::plain;
-use reference::leaf::word_of;
+use reference::check::Windows;
 use reference::random::Random;
 
-/// The four lengths that a batch needs, to which both checkers are held.
-fn held(words: &[u32]) -> [u64; 4] {
-    let judged = judge(words);
-    let needed = judged.expect("every rule is kept");
-    for buffers in [needed, needed.map(|length| length.saturating_sub(1))] {
-        let due = beside(judged, buffers);
-        assert_eq!(batch_check::check(words, buffers), due, "c: {words:x?} {buffers:?}");
-        let (number, place, lengths) = reference::plain::check(words, buffers);
-        assert_eq!(Report { number, place, lengths }, due, "plain: {words:x?} {buffers:?}");
-    }
-    needed
-}
-
 /// 1 for each reference buffer that ends at a luma sample: at an even column, as Cr, the later one of chroma, stands at odd ones.
-fn in_luma(needed: [u64; 4]) -> [u32; 2] {
-    [needed[2] % 2, needed[3] % 2].map(|odd| odd as u32)
+fn in_luma(windows: Windows) -> [u32; 2] {
+    [windows[2], windows[3]].map(|window| window.is_some_and(|window| window.last % 2 == 0).into())
 }
 
 fn added(a: [u32; 2], b: [u32; 2]) -> [u32; 2] {
     [a[0] + b[0], a[1] + b[1]]
-}
-
-/// A B picture in which every vector is within its f code.
-fn frame(columns: u32, rows: u32, pitch: u32, chroma_row: u32) -> Frame {
-    Frame { pitch, chroma_row, codes: [9; 4], ..Frame::new(3, columns, rows) }
-}
-
-/// x and y.
-type Vector = (i64, i64);
-
-/// Intra, but for these macroblocks: number, forward and backward vector.
-fn picture(frame: &Frame, predicted: &[(u32, Vector, Vector)]) -> Vec<u32> {
-    let mut all: Vec<Command> = vec![moved(0, 0, 0); frame.macroblocks()];
-    for &(k, (forward_x, forward_y), (backward_x, backward_y)) in predicted {
-        all[k as usize] = plain(3, word_of(forward_x, forward_y), word_of(backward_x, backward_y));
-    }
-    rows(frame, &all).words()
-}
-
-/// The first and the last component that the k-th macroblock may have, in x and in y.
-fn spans(frame: &Frame, k: u32) -> [(i64, i64); 2] {
-    [inside(k % frame.columns, frame.columns), inside(k / frame.columns, frame.rows)]
 }
 
 /// Buffers 0 and 1, in low and narrow pictures, at all first chroma rows near luma and with one to three tiles in a row.
@@ -61,7 +25,7 @@ fn own_samples() {
         for pitch in [128, 256, 384].into_iter().filter(|pitch| *pitch >= 16 * columns) {
             for chroma_row in 16 * rows..=16 * rows + 40 {
                 let intra = Frame { pitch, chroma_row, ..Frame::new(1, columns, rows) };
-                assert_eq!(held(&picture(&intra, &[]))[2..], [0, 0]);
+                assert_eq!(held(&picture(&intra, &[]))[2..], [None, None]);
             }
         }
     }
@@ -95,8 +59,8 @@ fn columns() {
             let frame = frame(10, rows, pitch, chroma_row);
             for (k, x) in (0..10).flat_map(|k| (inside(k, 10).0..=inside(k, 10).1).map(move |x| (k, x))) {
                 let (left, right) = inside(k, 10);
-                let needed = held(&picture(&frame, &[(k, (x, down), (left + right - x, down))]));
-                counts[rows as usize] = added(counts[rows as usize], in_luma(needed));
+                let windows = held(&picture(&frame, &[(k, (x, down), (left + right - x, down))]));
+                counts[rows as usize] = added(counts[rows as usize], in_luma(windows));
             }
         }
     }
@@ -127,7 +91,7 @@ fn one_block_after_another() {
         let alone = held(&picture(&frame, &[earlier]));
         if first < second {
             let both = held(&picture(&frame, &[earlier, later]));
-            raised[usize::from(both[2] > alone[2])] += 1;
+            raised[usize::from(both[2].unwrap().last > alone[2].unwrap().last)] += 1;
             after_luma += in_luma(alone)[0];
         }
     }

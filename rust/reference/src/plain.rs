@@ -109,7 +109,7 @@ struct Check {
     strips: [u32; 2],
     /// Column and row of the lowest byte of any block in each reference; behind the picture's last where there is no block yet.
     starts: [[u32; 2]; 2],
-    /// What a vector's y must be below in this row, and the column where its chroma ends, for its block to start before that.
+    /// What a vector's y must be below, in this row, and the last column of its chroma, for its block to start before that.
     early: [i32; 2],
     left: [u32; 2],
 }
@@ -246,8 +246,8 @@ impl Check {
         }
     }
 
-    /// What y must be below for a block to start before this sample. In the first strip of a row of tiles each row begins 16 bytes
-    /// after the one above; all other strips come behind.
+    /// What y must be below for a block to start before this sample: in a row that begins before it. In the first strip of a row
+    /// of tiles each row begins 16 bytes after the one above; all other strips come behind.
     fn early_for(&self, [x, y]: [u32; 2]) -> i32 {
         let row = if x < 16 { y + u32::from(x > 0) } else { (y | 31) + 1 };
         2 * row as i32 - 32 * self.row as i32
@@ -284,7 +284,7 @@ impl Check {
         let [x, y] = components(vector);
         let chroma = [last(x, self.column), last(y, self.row)];
         let strip = (self.chroma_row + chroma[1]) >> 5 << 16 | chroma[0] >> 3;
-        if strip >= self.strips[direction] || (y < self.early[direction] && chroma[0] < self.left[direction]) {
+        if strip >= self.strips[direction] || (chroma[0] < self.left[direction] && y < self.early[direction]) {
             self.widen(direction, [x, y], chroma, strip);
         }
     }
@@ -319,6 +319,8 @@ impl Check {
         if self.byte(start) < self.byte(self.starts[direction]) {
             self.starts[direction] = start;
             self.early[direction] = self.early_for(start);
+            // In the first row of tiles only strips up to this one have lower bytes. From luma's first column in a strip chroma
+            // may go on to the end of the next one.
             self.left[direction] = if start[1] < 32 { 8 * (start[0] >> 4) + 16 } else { u32::MAX };
         }
     }

@@ -145,13 +145,22 @@ static void walk_batch(walk *w)
         refuse(w, 12, at);
 }
 
+static uint64_t first_of(const reference *r)
+{
+    return r->end == 0 ? 0 : r->first;
+}
+
 /* "13 comes after the whole batch", at the "lowest such buffer". Every macroblock touches its own samples in buffers 0 and
- * 1, so the last one touches the highest byte, and that is Cr's: it stands below the last luma sample, in the same column. */
+ * 1, so the first one touches byte 0, and the last one the highest byte, and that is Cr's: it stands below the last luma sample,
+ * in the same column. */
 static batch_answer beside(const walk *w, const uint64_t lengths[4])
 {
     const picture *p = &w->p;
     uint64_t whole = cr_byte(p, 8 * p->columns - 1, 8 * p->rows - 1) + 1;
-    batch_answer answer = {0, 0, {whole, whole, w->forward.end, w->backward.end}};
+    batch_answer answer = {
+        .lengths = {whole, whole, w->forward.end, w->backward.end},
+        .firsts = {0, 0, first_of(&w->forward), first_of(&w->backward)},
+    };
     for (uint64_t n = 0; n < 4; n++) {
         if (lengths[n] < answer.lengths[n]) {
             answer.number = 13;
@@ -166,13 +175,13 @@ static batch_answer beside(const walk *w, const uint64_t lengths[4])
 batch_answer batch_check_up_to(size_t most, const uint32_t *words, size_t count, const uint64_t lengths[4])
 {
     static const uint32_t no_macroblock[MACROBLOCK_WORDS] = {0};
-    walk w = {.words = words, .end = words + (count < most ? count : most)};
+    walk w = {.words = words, .end = words + (count < most ? count : most), .forward = untouched, .backward = untouched};
     w.s = (progress){.position = 0, .firsts = 0x40000000, .before = no_macroblock};
     walk_batch(&w);
     if (count > most && w.number < 2)
-        return (batch_answer){27, most, {0, 0, 0, 0}};
+        return (batch_answer){.number = 27, .place = most};
     if (w.number != 0)
-        return (batch_answer){w.number, w.place, {0, 0, 0, 0}};
+        return (batch_answer){.number = w.number, .place = w.place};
     return beside(&w, lengths);
 }
 

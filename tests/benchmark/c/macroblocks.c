@@ -1,8 +1,11 @@
 /* The loop over macroblocks. One that keeps every rule goes through it by a few comparisons of four words at once. What is
  * compared depends on the macroblock's kind by masks that are looked up, and not by branches: kinds follow each other
  * in any order, and a branch that is predicted wrongly takes longer than the whole macroblock. If a comparison fails,
- * macroblock.c finds out what is broken. An address is computed only for a block that reaches the strip of the buffer's end
- * or a later one. */
+ * macroblock.c finds out what is broken.
+ *
+ * An address is computed only for a block that reaches the strip of the buffer's end or a later one, or starts in that of its
+ * first byte or an earlier one. Starts are looked at only in rows from which the f codes let a block reach so far up: these are
+ * mostly few, and have a loop of their own. */
 #include "kinds.h"
 #include "walk.h"
 
@@ -27,6 +30,8 @@ typedef struct {
     uint32_t key, last_key;
     /* The keys from which on a block is counted. */
     uint32_t forward, backward;
+    /* The last strips for words 5 and 6 in which a start is counted. */
+    __m128i unsettled;
 } cursor;
 
 /* What vectors are judged by: forward x, forward y, backward x, backward y. */
@@ -89,20 +94,53 @@ in_loop void keep(walk *w, const cursor *g)
     w->s = (progress){position_of(g, &w->p), firsts, g->before};
 }
 
+in_loop int has_forward(const uint32_t *m)
+{
+    return (m[1] & 0x0100) != 0;
+}
+
+in_loop int has_backward(const uint32_t *m)
+{
+    return (m[1] & 0x2200) == 0x0200;
+}
+
 static __attribute__((noinline)) uint32_t raised(const picture *p, reference *r, uint32_t position, uint32_t vector)
 {
-    count_blocks(p, r, position, vector);
+    count_end(p, r, position, vector);
     return r->key;
 }
 
-/* Counts the blocks that a macroblock predicts. It has not been judged yet; if it is broken, nothing that was counted is
- * reported. */
-in_loop void count(walk *w, cursor *g, const uint32_t *m, uint32_t type)
+static __attribute__((noinline)) void lower(walk *w, uint32_t position, const uint32_t *m)
 {
-    if (rarely(key_of(g->key, m[5]) >= g->forward) && m[1] & 0x0100)
+    if (has_forward(m))
+        count_first(&w->p, &w->forward, position, m[5]);
+    if (has_backward(m))
+        count_first(&w->p, &w->backward, position, m[6]);
+}
+
+in_loop __m128i unsettled(const walk *w, uint32_t type)
+{
+    return _mm_set_epi32(-1, -1, type == B_PICTURE ? w->backward.settled - 1 : -1, w->forward.settled - 1);
+}
+
+/* Counts where the blocks end that a macroblock predicts. It has not been judged yet; if it is broken, nothing that was counted
+ * is reported. */
+in_loop void count_ends(walk *w, cursor *g, const uint32_t *m, uint32_t type)
+{
+    if (rarely(key_of(g->key, m[5]) >= g->forward) && has_forward(m))
         g->forward = raised(&w->p, &w->forward, position_of(g, &w->p), m[5]);
-    if (type == B_PICTURE && rarely(key_of(g->key, m[6]) >= g->backward) && (m[1] & 0x2200) == 0x0200)
+    if (type == B_PICTURE && rarely(key_of(g->key, m[6]) >= g->backward) && has_backward(m))
         g->backward = raised(&w->p, &w->backward, position_of(g, &w->p), m[6]);
+}
+
+/* The same for where they start, row in 31:16 and column in 15:0, in half samples. It has been judged. */
+in_loop void count_firsts(walk *w, cursor *g, const uint32_t *m, __m128i starts, uint32_t type)
+{
+    __m128i strips = _mm_and_si128(starts, _mm_set1_epi32((int32_t)0xffc0ffff));
+    if (rarely(_mm_movemask_epi8(_mm_cmpgt_epi32(strips, g->unsettled)) != 0xffff)) {
+        lower(w, position_of(g, &w->p), m);
+        g->unsettled = unsettled(w, type);
+    }
 }
 
 /* The bits of words 1 to 4 that are not what is due. */
@@ -177,13 +215,28 @@ in_loop const uint32_t *broken(walk *w, const cursor *g, const uint32_t *m)
     return m;
 }
 
-in_loop const uint32_t *macroblocks(walk *w, const uint32_t *m, uint32_t type)
+/* Whether a macroblock in this row can lower a first byte. If not, none further down can. */
+static __attribute__((noinline)) int is_high(const walk *w, uint32_t row, uint32_t type)
+{
+    return can_lower(&w->p, &w->forward, row, w->p.reach[1]) ||
+           (type == B_PICTURE && can_lower(&w->p, &w->backward, row, w->p.reach[3]));
+}
+
+in_loop cursor begin(const walk *w, uint32_t type)
+{
+    cursor g = {.before = w->s.before, .firsts = words_of(0, 0, 0, w->s.firsts)};
+    g.forward = w->forward.key, g.backward = w->backward.key;
+    g.unsettled = unsettled(w, type);
+    go_to(&g, w, w->s.position);
+    return g;
+}
+
+/* In high rows, as far as they are high, or in those below them. */
+in_loop const uint32_t *macroblocks(walk *w, const uint32_t *m, uint32_t type, int high)
 {
     const uint32_t *last = w->end - MACROBLOCK_WORDS;
     const range r = range_of(&w->p);
-    cursor g = {.before = w->s.before, .firsts = words_of(0, 0, 0, w->s.firsts)};
-    g.forward = w->forward.key, g.backward = w->backward.key;
-    go_to(&g, w, w->s.position);
+    cursor g = begin(w, type);
     while (m <= last) {
         if (rarely(*m != MACROBLOCK)) {
             if (*m != NOOP)
@@ -192,9 +245,12 @@ in_loop const uint32_t *macroblocks(walk *w, const uint32_t *m, uint32_t type)
             continue;
         }
         if (type != I_PICTURE)
-            count(w, &g, m, type);
+            count_ends(w, &g, m, type);
+        const __m128i starts = high ? _mm_add_epi16(load(m + 5), g.place) : _mm_setzero_si128();
         if (rarely(!judge(&g, &r, m, type)))
             return broken(w, &g, m);
+        if (high)
+            count_firsts(w, &g, m, starts, type);
         /* "last-in-slice wherever the column is W−1; last-in-group only with last-in-slice" */
         const uint32_t word_4 = m[4];
         const int row_ends = g.key == g.last_key;
@@ -204,15 +260,14 @@ in_loop const uint32_t *macroblocks(walk *w, const uint32_t *m, uint32_t type)
         }
         advance(&g, m);
         m += MACROBLOCK_WORDS;
-        if (rarely(row_ends)) {
+        if (rarely(row_ends))
             go_to(&g, w, (g.row + 1) << 16);
-            if (g.row == w->p.rows && !(word_4 & LAST_IN_GROUP))
-                break;
-        }
         if (rarely(word_4 & LAST_IN_GROUP)) {
             w->group_open = 0;
             break;
         }
+        if (rarely(row_ends) && (g.row == w->p.rows || (high && !is_high(w, g.row, type))))
+            break;
     }
     keep(w, &g);
     return m;
@@ -220,27 +275,35 @@ in_loop const uint32_t *macroblocks(walk *w, const uint32_t *m, uint32_t type)
 
 static __attribute__((noinline)) const uint32_t *macroblocks_in_i(walk *w, const uint32_t *m)
 {
-    return macroblocks(w, m, I_PICTURE);
+    return macroblocks(w, m, I_PICTURE, 0);
 }
 
 static __attribute__((noinline)) const uint32_t *macroblocks_in_p(walk *w, const uint32_t *m)
 {
-    return macroblocks(w, m, P_PICTURE);
+    return macroblocks(w, m, P_PICTURE, 0);
+}
+
+static __attribute__((noinline)) const uint32_t *macroblocks_high_in_p(walk *w, const uint32_t *m)
+{
+    return macroblocks(w, m, P_PICTURE, 1);
 }
 
 static __attribute__((noinline)) const uint32_t *macroblocks_in_b(walk *w, const uint32_t *m)
 {
-    return macroblocks(w, m, B_PICTURE);
+    return macroblocks(w, m, B_PICTURE, 0);
+}
+
+static __attribute__((noinline)) const uint32_t *macroblocks_high_in_b(walk *w, const uint32_t *m)
+{
+    return macroblocks(w, m, B_PICTURE, 1);
 }
 
 const uint32_t *walk_macroblocks(walk *w, const uint32_t *at)
 {
-    switch (w->p.type) {
-    case I_PICTURE:
+    uint32_t type = w->p.type;
+    if (type == I_PICTURE)
         return macroblocks_in_i(w, at);
-    case P_PICTURE:
-        return macroblocks_in_p(w, at);
-    default:
-        return macroblocks_in_b(w, at);
-    }
+    if (is_high(w, w->s.position >> 16, type))
+        return type == P_PICTURE ? macroblocks_high_in_p(w, at) : macroblocks_high_in_b(w, at);
+    return type == P_PICTURE ? macroblocks_in_p(w, at) : macroblocks_in_b(w, at);
 }

@@ -11,13 +11,25 @@ typedef struct {
      * end: its chroma ends in an earlier strip, and its luma, at most one column further than its Cr, in no later strip than
      * that one, and there in a row above chroma's. */
     uint32_t key;
+    /* The lowest byte touched so far, or the largest number. */
+    uint64_t first;
+    /* A block that starts in this strip or a later one does not lower it: the row of tiles in 31:22, and the column in 15:0, in
+     * half samples, of which 32 are a strip. */
+    int32_t settled;
 } reference;
 
-/* The last column or row of a block. "The luma block starts at column 16X + floor(vx/2) and has 16 columns, 17 if vx is odd;
- * rows likewise." */
+static const reference untouched = {.first = UINT64_MAX, .settled = INT32_MAX};
+
+/* The first and the last column or row of a block. "The luma block starts at column 16X + floor(vx/2) and has 16 columns, 17 if
+ * vx is odd; rows likewise." */
+static inline uint32_t luma_first(uint32_t place, int32_t v)
+{
+    return 16 * place + (uint32_t)(v >> 1);
+}
+
 static inline uint32_t luma_last(uint32_t place, int32_t v)
 {
-    return 16 * place + (uint32_t)((v >> 1) + 15 + (v & 1));
+    return luma_first(place, v) + 15 + (v & 1);
 }
 
 /* "Chroma halves each component towards zero; the block starts at 8X plus the floor of half that, 8 columns, 9 if it is odd;
@@ -41,8 +53,8 @@ static inline uint32_t key_of(uint32_t at, uint32_t vector)
     return (at + vector) & 0xff80ffff;
 }
 
-/* Counts the blocks that the macroblock at this position predicts with this vector. */
-static inline void count_blocks(const picture *p, reference *r, uint32_t position, uint32_t vector)
+/* Counts where the blocks end that the macroblock at this position predicts with this vector. */
+static inline void count_end(const picture *p, reference *r, uint32_t position, uint32_t vector)
 {
     uint32_t column = position & 0xffff, row = position >> 16;
     int32_t vx = (int16_t)vector, vy = (int16_t)(vector >> 16);
@@ -54,6 +66,25 @@ static inline void count_blocks(const picture *p, reference *r, uint32_t positio
         return;
     r->end = end;
     r->key = ((p->chroma_row & 31) + y) >> 5 << 23 | x >> 3 << 5;
+}
+
+/* Counts where they start. That is where luma does: Cb starts in a later row, as C ≥ 16H, and in luma's strip or the next one, as
+ * it starts at most one column before luma, and then at an even one. */
+static inline void count_first(const picture *p, reference *r, uint32_t position, uint32_t vector)
+{
+    uint32_t x = luma_first(position & 0xffff, (int16_t)vector), y = luma_first(position >> 16, (int16_t)(vector >> 16));
+    uint64_t first = luma_byte(p, x, y);
+    if (first >= r->first)
+        return;
+    r->first = first;
+    r->settled = first == 0 ? 0 : (int32_t)(y >> 5 << 22 | ((x >> 4) + 1) << 5);
+}
+
+/* Whether a block can start before the first byte that a macroblock in this row predicts. */
+static inline int can_lower(const picture *p, const reference *r, uint32_t row, int32_t reach)
+{
+    int32_t top = 16 * (int32_t)row - reach / 2;
+    return luma_byte(p, 0, top < 0 ? 0 : (uint32_t)top) < r->first;
 }
 
 #endif
