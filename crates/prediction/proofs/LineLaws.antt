@@ -161,50 +161,54 @@ own-along s x m z y wide h k =
     join-both (between (ownOf s x y .first) (ownOf s m y .end)) (ownOf s z y) (own-touches s m y) (own-touches s z y) ∙ ap₂ between first end
 
 -- ---- where blocks begin
--- A block that starts in the picture, in half samples from the edges, begins at or behind the floor of every lower y.
-module _ (s : Surface) (at : Position) (x y b u v : ℕ) (hx : x < 65536) (hy : y < 65536) (eu : u + 32768 ≡ 32 * at .column + x) (ev : v + 32768 ≡ 32 * at .row + y) (low : b ≤ y) where
-  above-wide : 16 ≤ s .pitch → floorOf s (at .row) b ≤ blockExtent s at (pair (subℕ x 32768) (subℕ y 32768)) .first
+-- A block that starts in the picture, in half samples from the edges, begins at or behind the floor of every column before it and every lower x and y.
+module _ (s : Surface) (at : Position) (column x y a b u v : ℕ) (hx : x < 65536) (hy : y < 65536) (eu : u + 32768 ≡ 32 * at .column + x) (ev : v + 32768 ≡ 32 * at .row + y)
+    (right : column ≤ at .column) (across : a ≤ x) (down : b ≤ y) where
+  above-wide : 16 ≤ s .pitch → floorOf s column a (at .row) b ≤ blockExtent s at (pair (subℕ x 32768) (subℕ y 32768)) .first
   unfolding floorOf
   above-wide wide =
+      let left = 32 * column + a - 32768 in
       let top = 32 * at .row + b - 32768 in
-      let luma = le-trans (address-column (s .pitch) (top / 2) 0 (u / 2) (omega arith)) (address-row (s .pitch) (u / 2) (top / 2) (v / 2) wide (omega arith)) in
+      let luma = le-trans (address-column (s .pitch) (top / 2) (left / 2) (u / 2) (omega arith)) (address-row (s .pitch) (u / 2) (top / 2) (v / 2) wide (omega arith)) in
       let chroma = le-trans (address-column (s .pitch) (s .«chroma_row») 0 (2 * ((u + (1 - x / 32768)) / 4)) (omega arith))
       (address-row (s .pitch) (2 * ((u + (1 - x / 32768)) / 4)) (s .«chroma_row») (s .«chroma_row» + (v + (1 - y / 32768)) / 4) wide (omega arith)) in
       let first = first-at s at x y u v (u / 2) (v / 2) ((u + (1 - x / 32768)) / 4) ((v + (1 - y / 32768)) / 4) hx hy eu ev refl refl refl refl in
       simp (le-leb 16 (s .pitch) wide) (omega (arith, luma, chroma, first))
 
-  above-narrow : s .pitch < 16 → floorOf s (at .row) b ≤ blockExtent s at (pair (subℕ x 32768) (subℕ y 32768)) .first
+  above-narrow : s .pitch < 16 → floorOf s column a (at .row) b ≤ blockExtent s at (pair (subℕ x 32768) (subℕ y 32768)) .first
   unfolding floorOf
   above-narrow narrow = simp (lt-leb 16 (s .pitch) narrow) (omega arith)
 
-  pub above-start : floorOf s (at .row) b ≤ blockExtent s at (pair (subℕ x 32768) (subℕ y 32768)) .first
+  above-start : floorOf s column a (at .row) b ≤ blockExtent s at (pair (subℕ x 32768) (subℕ y 32768)) .first
   above-start = by (split (s .pitch) 16)
     where
-      by : (s .pitch < 16) ⊎ (16 ≤ s .pitch) → floorOf s (at .row) b ≤ blockExtent s at (pair (subℕ x 32768) (subℕ y 32768)) .first
+      by : (s .pitch < 16) ⊎ (16 ≤ s .pitch) → floorOf s column a (at .row) b ≤ blockExtent s at (pair (subℕ x 32768) (subℕ y 32768)) .first
       by (inl narrow) = above-narrow narrow
       by (inr wide) = above-wide wide
 
--- A block whose vector keeps two lines begins at or behind the floor of its row of macroblocks, and touches some byte.
-pub above-floor : (s : Surface) (at : Position) (l k : Line) (w : ℕ)
+-- A block whose vector keeps two lines begins at or behind the floor of its row from every column before it on, and touches some byte.
+pub above-floor : (s : Surface) (at : Position) (column : ℕ) (l k : Line) (w : ℕ)
+    → column ≤ at .column
     → vectorInLines l k (at .column) (at .row) w ≡ true
-    → (floorOf s (at .row) (k .low) ≤ reachOf s at w .first) × (0 < reachOf s at w .end)
+    → (floorOf s column (l .low) (at .row) (k .low) ≤ reachOf s at w .first) × (0 < reachOf s at w .end)
 unfolding vectorInLines
-above-floor s at l k w t =
+above-floor s at column l k w right t =
     let f = vector-fits w in
     let x = biasOf (vectorOf w .x) in
     let y = biasOf (vectorOf w .y) in
     let ex = bias-back (vectorOf w .x) (f .0 .sfits) in
     let ey = bias-back (vectorOf w .y) (f .1 .sfits) in
     let two = both (inLine l (at .column) (vectorOf w .x)) (inLine k (at .row) (vectorOf w .y)) t in
-    let column = line-means l (at .column) x (ap (inLine l (at .column)) ex ∙ two .0) in
-    let row = line-means k (at .row) y (ap (inLine k (at .row)) ey ∙ two .1) in
+    let columns = line-means l (at .column) x (ap (inLine l (at .column)) ex ∙ two .0) in
+    let rows = line-means k (at .row) y (ap (inLine k (at .row)) ey ∙ two .1) in
     let u = 32 * at .column + x - 32768 in
     let v = 32 * at .row + y - 32768 in
-    let eu : u + 32768 ≡ 32 * at .column + x = omega (arith, column .first) in
-    let ev : v + 32768 ≡ 32 * at .row + y = omega (arith, row .first) in
+    let eu : u + 32768 ≡ 32 * at .column + x = omega (arith, columns .first) in
+    let ev : v + 32768 ≡ 32 * at .row + y = omega (arith, rows .first) in
     let is = reach-inside s at w x y ex ey u v eu ev in
-    let start = above-start s at x y (k .low) u v (bias-lt (vectorOf w .x) (f .0 .sfits)) (bias-lt (vectorOf w .y) (f .1 .sfits)) eu ev (row .from) in (
-      subst (λ (e : Extent). floorOf s (at .row) (k .low) ≤ e .first) (sym is) start,
+    let start =
+    above-start s at column x y (l .low) (k .low) u v (bias-lt (vectorOf w .x) (f .0 .sfits)) (bias-lt (vectorOf w .y) (f .1 .sfits)) eu ev right (columns .from) (rows .from) in (
+      subst (λ (e : Extent). floorOf s column (l .low) (at .row) (k .low) ≤ e .first) (sym is) start,
       omega (arith, ap (λ (e : Extent). e .end) (is ∙ block-is s at (pair (subℕ x 32768) (subℕ y 32768)))),
     )
 

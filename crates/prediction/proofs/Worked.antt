@@ -115,9 +115,12 @@ reaches : map reach (0x00000000 ∷ 0x00000001 ∷ 0x00000002 ∷ 0x00000020 ∷
 unfolding reachOf blockExtent vectorOf joined emptyExtent address
 reaches = refl
 
--- f code 4 goes 128 half samples up, so that blocks of the first five rows of macroblocks can begin in row 0, those of the sixth in row
--- 16 and those of the seventh in row 32, the first of the next row of tiles; or in chroma's first row, if that is above
-floors : map (λ (row : ℕ). floorOf (surface 128 112) row 32640) (0 ∷ 4 ∷ 5 ∷ 6 ∷ []) ++ (floorOf (surface 128 20) 6 32640 ∷ floorOf (surface 15 112) 6 32640 ∷ [])
-    ≡ 0 ∷ 0 ∷ 256 ∷ 4096 ∷ 320 ∷ 0 ∷ []
+-- f code 4 goes 128 half samples up and to the left: blocks of the first five rows of macroblocks can begin in row 0, those of the sixth in row 16
+-- and those of the seventh in row 32, the first of the next row of tiles, or in chroma's first row if that is above; and likewise by columns,
+-- where column 16 is in the next strip
+floors : map (λ (row : ℕ). floorOf (surface 128 112) 4 32640 row 32640) (0 ∷ 4 ∷ 5 ∷ 6 ∷ [])
+    ++ map (λ (column : ℕ). floorOf (surface 128 112) column 32640 5 32640) (5 ∷ 6 ∷ [])
+    ++ (floorOf (surface 128 20) 4 32640 6 32640 ∷ floorOf (surface 15 112) 4 32640 6 32640 ∷ [])
+    ≡ 0 ∷ 0 ∷ 256 ∷ 4096 ∷ 768 ∷ 1280 ∷ 320 ∷ 0 ∷ []
 unfolding floorOf address
 floors = refl

@@ -40,8 +40,11 @@ unfoldable pub reachOf : Surface → Position → ℕ → Extent
 reachOf s at w =
     cond (leZ (pos 0) (firstOf 16 (at .column) (vectorOf w .x)) && leZ (pos 0) (firstOf 16 (at .row) (vectorOf w .y))) (blockExtent s at (vectorOf w)) emptyExtent
 
--- A byte before which no block of a row of macroblocks begins whose vector's y, counted from −32768, is b or more: column 0 of the
--- first luma row that such a block can have, or of the first chroma row of all. On a surface too narrow for a strip it is 0.
-unfoldable pub floorOf : Surface → ℕ → ℕ → ℕ
-floorOf s row b =
-    cond (leb 16 (s .pitch)) (min (address (s .pitch) 0 ((32 * row + b - 32768) / 2)) (address (s .pitch) 0 (s .«chroma_row»))) 0
+-- A byte before which no block of a macroblock at this column or further right begins, in its row, whose vector's x and y, counted from −32768, are
+-- a and b or more: that of the first luma sample that such a block can have, or of the first chroma row. On a surface too narrow for a
+-- strip it is 0.
+unfoldable pub floorOf : Surface → ℕ → ℕ → ℕ → ℕ → ℕ
+floorOf s column a row b =
+    cond (leb 16 (s .pitch))
+    (min (address (s .pitch) ((32 * column + a - 32768) / 2) ((32 * row + b - 32768) / 2)) (address (s .pitch) 0 (s .«chroma_row»)))
+    0

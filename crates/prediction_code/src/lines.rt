@@ -132,35 +132,25 @@ fn above(n: u32) -> u32
     n - 32768
 }
 
-// The byte before which no block of a row of macroblocks begins whose vector's y is low - 32768 or more.
-pub fn floor_of(surface: Surface, row: u16, low: u16) -> u64
-    ensures { λ r. ⌜ r ≡ floorOf surface row low ⌝ }
+// The byte before which no block of a macroblock at this column or further right begins, in its row, whose vector's x and y are left - 32768
+// and low - 32768 or more.
+pub fn floor_of(surface: Surface, column: u16, left: u16, row: u16, low: u16) -> u64
+    ensures { λ r. ⌜ (r ≡ floorOf surface column left row low) × (r < 9223372036854775808) ⌝ }
 {
     let pitch = surface.pitch;
-    let from = 32 * (row as u32) + low as u32;
-    let top = above(from);
+    let x = above(32 * (column as u32) + left as u32);
+    let y = above(32 * (row as u32) + low as u32);
     if pitch < 16 {
         return 0;
     }
-    let luma = address(pitch, 0, top / 2);
+    let luma = address(pitch, x / 2, y / 2);
     let chroma = address(pitch, 0, surface.chroma_row as u32);
     extents::lower(luma, chroma)
 }
 
-// The lower of a first byte and that of the same block. Most blocks begin behind it, as their row alone tells.
+// The lower of a first byte and that of the block that the vector of a word displaces.
 pub fn first_with(first: u64, surface: Surface, column: u16, row: u16, word: u32) -> u64
     ensures { λ r. ⌜ r ≡ min first (reachOf surface (record { column = column; row = row }) word .first) ⌝ }
 {
-    let x = x_of(word);
-    let y = y_of(word);
-    if !starts(column, row, x, y) {
-        return 0;
-    }
-    if first <= floor_of(surface, row, y as u16) {
-        return first;
-    }
-    extents::lower(
-        first,
-        blocks::block_first(surface.pitch, surface.chroma_row, column, row, x, y),
-    )
+    extents::lower(first, reach_first(surface, column, row, word))
 }

@@ -3,7 +3,7 @@ use mathlib.Core.Bool.{Bool, true, false, cond}
 use mathlib.Core.List.{List}
 use mathlib.Core.Logic.{_⊎_, inl, inr}
 use mathlib.Core.Path.{_≡_, refl, sym, ap, ap₂, subst, _∙_}
-use Prim.Native.Nat.{ℕ, zero, suc, _+_, _*_, _≤_, _<_, _^_, min}
+use Prim.Native.Nat.{ℕ, zero, suc, _+_, _*_, _-_, _≤_, _<_, _^_, min}
 use native.Mathlib.Nat.{eq-zero-or-pos, eq-or-lt-of-le}
 use native.Mathlib.Omega.{arith}
 use borrow.Author.Tests.{eq-eqb, ne-eqb}
@@ -36,6 +36,16 @@ module _ (e r : Extent) where
           ap (λ (t : Bool). cond t 18446744073709551615 (joined e r .first)) (ne-eqb (joined e r .end) 0 (λ y. omega (arith, join-end e r))) in
           omega (arith, left, some, ap (λ (x : Extent). x .first) (join-both e r k h))
 
+-- a minimum that is lower than the highest number is a first byte
+pub lowest-touches : (e : Extent) → lowestOf e < 18446744073709551615 → 0 < e .end
+lowest-touches e h = by (eq-zero-or-pos (e .end))
+  where
+    by : (e .end ≡ 0) ⊎ (0 < e .end) → 0 < e .end
+    by (inl z) =
+        let none : lowestOf e ≡ 18446744073709551615 = ap (λ (t : Bool). cond t 18446744073709551615 (e .first)) (eq-eqb (e .end) 0 z) in
+        absurd (omega (arith, none))
+    by (inr k) = k
+
 pub lowest-first : (e : Extent) → 0 < e .end → lowestOf e ≡ e .first
 lowest-first e h = ap (λ (t : Bool). cond t 18446744073709551615 (e .first)) (ne-eqb (e .end) 0 (λ y. omega arith))
 
@@ -65,7 +75,7 @@ module _ (alone word : ℕ) (s : Surface) (at : Position) (ws : List ℕ) where
       by (inr l) = fit i l
 
   pub fit-touches : (x y : Line) (n : ℕ) → VectorsFit alone word s at ws x y n → AllTouch alone word s at ws n
-  fit-touches x y n fit k h u = above-floor s (record { column = at .column + k; row = at .row }) x y (wordAt (commandAt ws k) word) (fit k h u) .1
+  fit-touches x y n fit k h u = above-floor s (record { column = at .column + k; row = at .row }) (at .column + k) x y (wordAt (commandAt ws k) word) (omega arith) (fit k h u) .1
 
   -- Where nothing is touched in the end, nothing has changed.
   pub after-nothing : (k : ℕ) (e : Extent) → After k e .end ≡ 0 → After k e ≡ e
@@ -104,23 +114,29 @@ module _ (alone word : ℕ) (s : Surface) (at : Position) (ws : List ℕ) where
       there : (i : ℕ) → i < 9 → wordAt (commandAt ws k) i ≡ wordAt ws (9 * k + i)
       there i h = getD-take 9 (drop (9 * k) ws) i 0 h ∙ getD-drop (9 * k) ws i 0
 
-  -- A first byte that is no higher than the floor of the row stays.
-  module _ (x y : Line) (n : ℕ) (e : Extent) (fit : VectorsFit alone word s at ws x y n) (some : 0 < e .end) (low : e .first ≤ floorOf s (at .row) (y .low)) where
+  -- A first byte that is no higher than the floor of the row from the k-th command on stays.
+  module _ (x y : Line) (n : ℕ) (e : Extent) (fit : VectorsFit alone word s at ws x y n) (k : ℕ) (some : 0 < After k e .end)
+      (low : After k e .first ≤ floorOf s (at .column + k) (x .low) (at .row) (y .low)) where
     abbrev Stays : ℕ → Type 0
-    Stays k = (0 < After k e .end) × (After k e .first ≡ e .first)
+    Stays j = (0 < After j e .end) × (After j e .first ≡ After k e .first)
 
-    stays-next : (k : ℕ) → k < n → (t : Bool) → usesVector alone (wordAt (commandAt ws k) 1) ≡ t → Stays k → Stays (k + 1)
-    stays-next k h true u before =
-        let above = above-floor s (record { column = at .column + k; row = at .row }) x y (wordAt (commandAt ws k) word) (fit k h u) in
-        let r = reachAt alone word s at ws k in
-        let is = uses-one k e u in (
-          omega (arith, ap (λ (z : Extent). z .end) is, join-end (After k e) r, before .0),
-          ap (λ (z : Extent). z .first) is ∙ join-first (After k e) r (before .0) (omega (arith, above .0, before .1, low)) ∙ before .1,
+    stays-next : (j : ℕ) → k ≤ j → j < n → (t : Bool) → usesVector alone (wordAt (commandAt ws j) 1) ≡ t → Stays j → Stays (j + 1)
+    stays-next j later h true u before =
+        let above = above-floor s (record { column = at .column + j; row = at .row }) (at .column + k) x y (wordAt (commandAt ws j) word) (omega arith) (fit j h u) in
+        let r = reachAt alone word s at ws j in
+        let is = uses-one j e u in (
+          omega (arith, ap (λ (z : Extent). z .end) is, join-end (After j e) r, before .0),
+          ap (λ (z : Extent). z .first) is ∙ join-first (After j e) r (before .0) (omega (arith, above .0, before .1, low)) ∙ before .1,
         )
-    stays-next k h false u before = subst (λ (z : Extent). (0 < z .end) × (z .first ≡ e .first)) (sym (uses-none k e u)) before
+    stays-next j later h false u before = subst (λ (z : Extent). (0 < z .end) × (z .first ≡ After k e .first)) (sym (uses-none j e u)) before
 
-    pub after-above : (k : ℕ) → k ≤ n → (0 < touchedAfter alone word s at ws k e .end) × (touchedAfter alone word s at ws k e .first ≡ e .first)
-    after-above zero h = (some, refl)
-    after-above (suc k) h =
-        let one : k + 1 ≡ suc k = omega arith in
-        subst Stays one (stays-next k (omega arith) _ refl (after-above k (omega arith)))
+    stays-on : (d : ℕ) → k + d ≤ n → Stays (k + d)
+    stays-on zero h = let none : k ≡ k + 0 = omega arith in subst Stays none (some, refl)
+    stays-on (suc d) h =
+        let one : k + d + 1 ≡ k + suc d = omega arith in
+        subst Stays one (stays-next (k + d) (omega arith) (omega arith) _ refl (stays-on d (omega arith)))
+
+    pub after-above : k ≤ n → touchedAfter alone word s at ws n e .first ≡ touchedAfter alone word s at ws k e .first
+    after-above h =
+        let all : k + (n - k) ≡ n = omega arith in
+        subst Stays all (stays-on (n - k) (omega arith)) .1

@@ -1,17 +1,16 @@
 // The first byte that commands of a row touch of a reference, by a second look at them: the loop over the row counts ends alone, since few
 // rows can lower a first byte. `alone` is the type of a macroblock that is predicted from the one reference, and its vectors stand in
 // word `word`.
+use picture::Codes;
 use prediction::Extent;
-use prediction::Line;
-use prediction::Position;
 use prediction::Surface;
+use progress::Progress;
 ghost use mathlib.Core.Bool.{cond};
 ghost use mathlib.Core.Path.{_≡_};
 ghost use Prim.Native.Nat.{_+_, _/_, _≤_, _<_, min};
 ghost use lib.ListN.{length};
-ghost use Rattle.prediction.specs.Lines.{reachOf};
-ghost use Rattle.prediction.specs.declared.Line.{Line};
-ghost use Rattle.rows.specs.Touching.{usesVector, touchedAfter, AllTouch, VectorsFit, lowestOf};
+ghost use Rattle.prediction.specs.Lines.{lineOf, reachOf};
+ghost use Rattle.rows.specs.Touching.{usesVector, touchedAfter, VectorsFit, lowestOf};
 
 // Whether a command with this word 1 is predicted from the reference.
 fn uses(alone: u32, one: u32) -> bool
@@ -50,24 +49,34 @@ fn first_next(
     prediction_code::first_with(first, surface, column, row, vector)
 }
 
-// The first byte after the commands before word `at`, for a minimum.
-fn first_along(
-    surface: Surface,
-    position: Position,
+// What is touched of the reference after the commands before word `at`, which touch it up to `end`, where that is some byte. The look ends
+// where no block from there on can begin before the first byte so far, which in most rows is at once.
+pub(crate) fn touched_after(
+    progress: Progress,
+    codes: Codes,
     alone: u32,
     word: usize,
     extent: Extent,
+    end: u64,
     at: usize,
     words: &[u32],
-) -> u64
-    requires { ⌜ (at ≤ length (now words)) × (word < 9) × (position .column + at / 9 < 65536) × AllTouch alone word surface position (now words) (at / 9) ⌝ }
-    ensures { λ r. ⌜ r ≡ lowestOf (touchedAfter alone word surface position (now (words .entry)) (at / 9) extent) ⌝ }
+) -> Extent
+    requires { ⌜ (at ≤ length (now words)) × (word < 9) × (progress .position .column + at / 9 < 65536) × VectorsFit alone word (progress .frame .surface) (progress .position) (now words) (lineOf (progress .picture .grid .columns) (codes .x)) (lineOf (progress .picture .grid .rows) (codes .y)) (at / 9) × (end ≡ touchedAfter alone word (progress .frame .surface) (progress .position) (now words) (at / 9) extent .end) × (0 < end) ⌝ }
+    ensures { λ r. ⌜ r ≡ touchedAfter alone word (progress .frame .surface) (progress .position) (now (words .entry)) (at / 9) extent ⌝ }
 {
-    let row = position.row;
+    let surface = progress.frame.surface;
+    let row = progress.position.row;
+    let across = prediction_code::line_of(progress.picture.grid.columns, codes.x);
+    let down = prediction_code::line_of(progress.picture.grid.rows, codes.y);
+    let left = across.low;
+    let low = down.low;
     let mut first = lowest(extent);
-    let mut column = position.column;
+    let mut column = progress.position.column;
     let mut i = 0;
     while i + 9 <= at {
+        if first <= prediction_code::floor_of(surface, column, left, row, low) {
+            break;
+        }
         first = first_next(
             first,
             surface,
@@ -80,33 +89,5 @@ fn first_along(
         column += 1;
         i += 9;
     }
-    first
-}
-
-// What is touched of the reference after the commands before word `at`, where that is some byte and goes up to `end`. `line` is that of the
-// picture's rows under the f code: where no block of the row can begin before the first byte so far, that stays.
-pub(crate) fn touched_after(
-    surface: Surface,
-    position: Position,
-    line: Line,
-    alone: u32,
-    word: usize,
-    extent: Extent,
-    end: u64,
-    at: usize,
-    words: &[u32],
-) -> Extent
-    requires { ⌜ (at ≤ length (now words)) × (word < 9) × (position .column + at / 9 < 65536) × ((across : Line) × VectorsFit alone word surface position (now words) across line (at / 9)) × (end ≡ touchedAfter alone word surface position (now words) (at / 9) extent .end) × (0 < end) ⌝ }
-    ensures { λ r. ⌜ r ≡ touchedAfter alone word surface position (now (words .entry)) (at / 9) extent ⌝ }
-{
-    let low = line.low;
-    let floor = prediction_code::floor_of(surface, position.row, low);
-    if (0 < extent.end) & (extent.first <= floor) {
-        return Extent {
-            first: extent.first,
-            end,
-        };
-    }
-    let first = first_along(surface, position, alone, word, extent, at, words);
     Extent { first, end }
 }

@@ -50,11 +50,9 @@ fn forward_after(progress: Progress, end: u64, at: usize, words: &[u32]) -> Exte
     if end == 0 {
         return progress.extents.forward;
     }
-    let line = prediction_code::line_of(progress.picture.grid.rows, progress.picture.forward.y);
     looking::touched_after(
-        progress.frame.surface,
-        progress.position,
-        line,
+        progress,
+        progress.picture.forward,
         0x100,
         5,
         progress.extents.forward,
@@ -71,11 +69,9 @@ fn backward_after(progress: Progress, end: u64, at: usize, words: &[u32]) -> Ext
     if end == 0 {
         return progress.extents.backward;
     }
-    let line = prediction_code::line_of(progress.picture.grid.rows, progress.picture.backward.y);
     looking::touched_after(
-        progress.frame.surface,
-        progress.position,
-        line,
+        progress,
+        progress.picture.backward,
         0x200,
         6,
         progress.extents.backward,
@@ -103,8 +99,8 @@ fn taken(
     }
     let start = at - 9;
     let last = column - 1;
-    let f = forward_after(progress, forward, at, words);
     let b = backward_after(progress, backward, at, words);
+    let f = forward_after(progress, forward, at, words);
     let next = after::after_row(progress, last, f, b, &words[start..at]);
     Taken {
         progress: next,

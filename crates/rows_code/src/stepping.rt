@@ -132,13 +132,13 @@ fn judge_both(
     if !prediction_code::vector_in_lines(x, y, column, row, five) {
         return Step::Left;
     }
-    if !prediction_code::vector_in_lines(back_x, back_y, column, row, six) {
-        return Step::Left;
-    }
     let first = extents::join_ends(
         forward,
         prediction_code::reach_end(surface.pitch, surface.chroma_row, column, row, five),
     );
+    if !prediction_code::vector_in_lines(back_x, back_y, column, row, six) {
+        return Step::Left;
+    }
     let second = extents::join_ends(
         backward,
         prediction_code::reach_end(surface.pitch, surface.chroma_row, column, row, six),
@@ -165,14 +165,14 @@ fn judge_inter(
         return Step::Left;
     }
     let kind = fields_code::with_bits(low, 2, 2, 0);
+    if kind == 0x300 {
+        return judge_both(progress, lines, column, forward, backward, words);
+    }
     if kind == 0x100 {
         return judge_forward(progress, lines, column, forward, backward, words);
     }
     if kind == 0x200 {
         return judge_backward(progress, lines, column, forward, backward, words);
-    }
-    if kind == 0x300 {
-        return judge_both(progress, lines, column, forward, backward, words);
     }
     Step::Left
 }

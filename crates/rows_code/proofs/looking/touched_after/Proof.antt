@@ -1,44 +1,168 @@
 -- `touched_after`: what is touched of the reference after the commands before a word.
-use mathlib.Core.Path.{_≡_, sym, ap₂, subst, _∙_}
-use Prim.Native.Nat.{_/_, _≤_}
+use mathlib.Core.List.{List}
+use mathlib.Core.Path.{_≡_, refl, sym, ap, ap₂, _∙_}
+use Prim.Native.Nat.{ℕ, _+_, _*_, _-_, _/_, _≤_}
 use native.Mathlib.Omega.{arith}
-use borrow.Author.Tests.{ltb-true, leb-true}
-use lib.Dec.{ltb, leb}
-use Rattle.lists.proofs.Booleans.{and-left, and-right}
-use Rattle.prediction.proofs.ExtentLaws.{between}
-use Rattle.rows.specs.Touching.{touchedAfter}
-use Rattle.rows.proofs.TouchedLaws.{fit-touches, after-above, lowest-first}
 use borrow.Author.Needs.{needs}
+use Rattle.headers.specs.Words.{wordAt}
+use Rattle.prediction.specs.Lines.{lineOf, floorOf}
+use Rattle.prediction.specs.declared.Extent.{Extent}
+use Rattle.prediction.specs.declared.Line.{Line}
+use Rattle.prediction.specs.declared.Surface.{Surface}
+use Rattle.prediction.proofs.ExtentLaws.{between}
+use Rattle.rows.specs.Touching.{touchedAfter, lowestOf}
+use Rattle.rows.proofs.TouchedLaws.{look-on, fit-touches, after-above, lowest-touches, lowest-first}
 use Rattle.rows_code.proofs.looking.touched_after.Statement.{statement}
 use Rattle.rows_code.proofs.looking.touched_after.Tie as tie
 
-floor-of-requires : tie.Need-floor-of-requires
+-- what the loop keeps: k commands are looked at, whatever was touched before them
+record Looked (s : Surface) (alone word at : ℕ) (ws : List ℕ) (row first₀ column₀ first column i : ℕ) : Type 0 where
+  k : ℕ
+  i-is : i ≡ 9 * k
+  column-is : column ≡ column₀ + k
+  within : i ≤ at
+  lowest : (e : Extent) → first₀ ≡ lowestOf e → first ≡ lowestOf (touchedAfter alone word s (record { column = column₀; row = row }) ws k e)
+
+abbrev Inv-loop : tie.InvT-loop
+Inv-loop alone word end at words surface row left low first₀ column₀ i₀ first column i =
+    Looked surface alone word at words row first₀ column₀ first column i
+
+abbrev μ-loop : tie.MeasureT-loop
+μ-loop alone word end at words surface row left low first₀ column₀ i₀ first column i = at - i
+
+line-of-requires : tie.Need-line-of-requires Inv-loop μ-loop
+line-of-requires c κs = search needs
+
+line-of-requires-2 : tie.Need-line-of-requires-2 Inv-loop μ-loop
+line-of-requires-2 c κs = search needs
+
+lowest-requires : tie.Need-lowest-requires Inv-loop μ-loop
+lowest-requires c κs = search needs
+
+loop-holds : tie.Need-loop-holds Inv-loop μ-loop
+loop-holds c = record { k = 0; i-is = refl; column-is = omega arith; within = omega arith; lowest = λ e h. h }
+
+add-loop : tie.Need-add-loop Inv-loop μ-loop
+add-loop c = omega (arith, c .loop .inv .within)
+
+floor-of-requires : tie.Need-floor-of-requires Inv-loop μ-loop
 floor-of-requires c κs = search needs
 
-returns : tie.Need-returns
+add-first-next : tie.Need-add-first-next Inv-loop μ-loop
+add-first-next c = omega (arith, c .before .before .loop-test .taken)
+
+mul-first-next : tie.Need-mul-first-next Inv-loop μ-loop
+mul-first-next c = search needs
+
+shared-slice-read-first-next : tie.Need-shared-slice-read-first-next Inv-loop μ-loop
+shared-slice-read-first-next c = omega (arith, c .before .before .before .loop-test .taken, c .before .before .before .before .before .before .before .before .before .before .pre .0)
+
+add-first-next-2 : tie.Need-add-first-next-2 Inv-loop μ-loop
+add-first-next-2 c = omega (arith, c .before .before .before .loop-test .taken, c .before .before .before .before .before .before .before .before .before .before .pre .1)
+
+mul-first-next-2 : tie.Need-mul-first-next-2 Inv-loop μ-loop
+mul-first-next-2 c = search needs
+
+shared-slice-read-first-next-2 : tie.Need-shared-slice-read-first-next-2 Inv-loop μ-loop
+shared-slice-read-first-next-2 c = omega (arith, c .before .before .before .before .loop-test .taken, c .before .before .before .before .before .before .before .before .before .before .before .pre .0, c .before .before .before .before .before .before .before .before .before .before .before .pre .1)
+
+first-next-requires : tie.Need-first-next-requires Inv-loop μ-loop
+first-next-requires c κs = search needs
+
+add-column : tie.Need-add-column Inv-loop μ-loop
+add-column c =
+    let l = c .before .before .before .before .before .before .loop in
+    omega (arith, l .inv .column-is, l .inv .i-is, c .before .before .before .before .before .loop-test .taken, c .before .before .before .before .before .before .before .before .before .before .before .before .pre .2)
+
+add-i : tie.Need-add-i Inv-loop μ-loop
+add-i c = omega (arith, c .before .before .before .before .before .loop-test .taken)
+
+loop-less : tie.Need-loop-less Inv-loop μ-loop
+loop-less c = omega (arith, c .before .before .before .before .before .loop-test .taken)
+
+loop-again : tie.Need-loop-again Inv-loop μ-loop
+loop-again c =
+    let l = c .before .before .before .before .before .before .loop in
+    let d = c .before .before .before .before .before .before .before .before .before .before .before .before in
+    let a = d .args in
+    let g = a .progress in
+    let p = d .pre in
+    let test = c .before .before .before .before .before .loop-test .taken in
+    let x = lineOf (g .picture .grid .columns) (a .codes .x) in
+    let y = lineOf (g .picture .grid .rows) (a .codes .y) in
+    -- as values of their types, in the order of declaration: Progress, Frame, Surface, pitch; Position, row
+    let fields = d .good .0 .1 .1 .1 in
+    let pitch = fields .0 .1 .1 .1 .1 .0 .1 .1 .0 .1 in
+    let row = fields .1 .1 .0 .1 .1 .1 .0 .1 in
+    let touch = fit-touches (a .alone) (a .word) (g .frame .surface) (g .position) (a .words .now) x y (a .at / 9) (p .3) in
+    record {
+      k = l .inv .k + 1;
+      i-is = omega (arith, l .inv .i-is);
+      column-is = omega (arith, l .inv .column-is);
+      within = omega (arith, test);
+      lowest = λ e h. c .first-next .ensures
+          ∙ look-on (a .alone) (a .word) (g .frame .surface) (g .position) (a .words .now) (a .at / 9) e touch (l .inv .k) (omega (arith, l .inv .i-is, test)) (p .1) pitch
+          (omega (arith, p .2, l .inv .i-is, test)) row (l .column) (l .first) _ _ (l .inv .column-is) (l .inv .lowest e h) (ap (λ (n : ℕ). wordAt (a .words .now) (n + 1)) (l .inv .i-is))
+          (ap (λ (n : ℕ). wordAt (a .words .now) (n + a .word)) (l .inv .i-is));
+    }
+
+returns : tie.Need-returns Inv-loop μ-loop
 returns c =
-    let d = c .before .before .before .before .before in
+    let l = c .before .loop in
+    let d = c .before .before .before .before .before .before .before in
     let a = d .args in
+    let g = a .progress in
     let p = d .pre in
-    let some = and-left (ltb 0 (a .extent .end)) (leb (a .extent .first) (c .before .before .before .floor-of .result)) (c .if1 .taken) in
-    let low = and-right (ltb 0 (a .extent .end)) (leb (a .extent .first) (c .before .before .before .floor-of .result)) (c .if1 .taken) in
-    let stays = after-above (a .alone) (a .word) (a .surface) (a .position) (a .words .now) (p .3 .0) (a .line) (a .at / 9) (a .extent) (p .3 .1) (ltb-true 0 (a .extent .end) some)
-    (omega (arith, leb-true (a .extent .first) (c .before .before .before .floor-of .result) low, c .before .before .before .floor-of .ensures)) (a .at / 9) (omega arith) in
-    ap₂ between (sym (stays .1)) (p .4)
+    let After : ℕ → Extent = λ n. touchedAfter (a .alone) (a .word) (g .frame .surface) (g .position) (a .words .now) n (a .extent) in
+    let all : l .inv .k ≡ a .at / 9 = omega (arith, l .inv .i-is, l .inv .within, c .loop-test .left) in
+    let seen = l .inv .lowest (a .extent) (c .before .before .lowest .ensures) ∙ ap (λ (n : ℕ). lowestOf (After n)) all in
+    ap₂ between (seen ∙ lowest-first (After (a .at / 9)) (omega (arith, p .4, p .5))) (p .4)
 
-first-along-requires : tie.Need-first-along-requires
-first-along-requires c κs =
-    let d = c .before .before .before .before .before in
-    let a = d .args in
-    let p = d .pre in
-    (p .0, p .1, p .2, fit-touches (a .alone) (a .word) (a .surface) (a .position) (a .words .now) (p .3 .0) (a .line) (a .at / 9) (p .3 .1))
-
-returns-2 : tie.Need-returns-2
+returns-2 : tie.Need-returns-2 Inv-loop μ-loop
 returns-2 c =
-    let d = c .before .before .before .before .before .before in
+    let l = c .before .before .before .loop in
+    let d = c .before .before .before .before .before .before .before .before .before in
     let a = d .args in
+    let g = a .progress in
     let p = d .pre in
-    ap₂ between (c .first-along .ensures ∙ lowest-first (touchedAfter (a .alone) (a .word) (a .surface) (a .position) (a .words .now) (a .at / 9) (a .extent)) (omega (arith, p .4, p .5))) (p .4)
+    let k = l .inv .k in
+    let x = lineOf (g .picture .grid .columns) (a .codes .x) in
+    let y = lineOf (g .picture .grid .rows) (a .codes .y) in
+    let After : ℕ → Extent = λ n. touchedAfter (a .alone) (a .word) (g .frame .surface) (g .position) (a .words .now) n (a .extent) in
+    let seen = l .inv .lowest (a .extent) (c .before .before .before .before .lowest .ensures) in
+    let floor = c .before .floor-of .ensures in
+    let some = lowest-touches (After k) (omega (arith, seen, c .if1 .taken, floor .1)) in
+    let first = seen ∙ lowest-first (After k) some in
+    let here =
+    floor .0
+    ∙ ap₂ (λ (m : ℕ) (n : Line). floorOf (g .frame .surface) m (n .low) (g .position .row) (c .before .before .before .before .before .line-of2 .result .low)) (l .inv .column-is) (c .before .before .before .before .before .before .line-of .ensures)
+    ∙ ap (λ (n : Line). floorOf (g .frame .surface) (g .position .column + k) (x .low) (g .position .row) (n .low)) (c .before .before .before .before .before .line-of2 .ensures) in
+    let stays = after-above (a .alone) (a .word) (g .frame .surface) (g .position) (a .words .now) x y (a .at / 9) (a .extent) (p .3) k some
+    (omega (arith, c .if1 .taken, first, here)) (omega (arith, l .inv .i-is, l .inv .within)) in
+    ap₂ between (first ∙ sym stays) (p .4)
 
 pub touched-after-spec : {M : Type 1} → statement M
-touched-after-spec = tie.close (tie.spec floor-of-requires returns first-along-requires returns-2)
+touched-after-spec =
+    tie.close
+    (tie.spec
+    Inv-loop
+    μ-loop
+    line-of-requires
+    line-of-requires-2
+    lowest-requires
+    loop-holds
+    add-loop
+    floor-of-requires
+    add-first-next
+    mul-first-next
+    shared-slice-read-first-next
+    add-first-next-2
+    mul-first-next-2
+    shared-slice-read-first-next-2
+    first-next-requires
+    add-column
+    add-i
+    loop-less
+    loop-again
+    returns
+    returns-2)

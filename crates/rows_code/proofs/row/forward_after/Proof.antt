@@ -1,10 +1,7 @@
 -- `forward_after`: what is touched of the forward reference after the commands before a word.
-use mathlib.Core.Path.{_≡_, sym, subst, _∙_}
+use mathlib.Core.Path.{sym, _∙_}
 use Prim.Native.Nat.{_/_}
 use native.Mathlib.Omega.{arith}
-use Rattle.prediction.specs.Lines.{lineOf}
-use Rattle.prediction.specs.declared.Line.{Line}
-use Rattle.rows.specs.Touching.{VectorsFit}
 use Rattle.rows.proofs.TouchedLaws.{after-nothing}
 use borrow.Author.Needs.{needs}
 use Rattle.rows_code.proofs.row.forward_after.Statement.{statement}
@@ -16,21 +13,14 @@ returns c =
     let p = d .args .progress in
     sym (after-nothing 0x100 5 (p .frame .surface) (p .position) (d .args .words .now) (d .args .at / 9) (p .extents .forward) (sym (d .pre .2 .1 .forward-end) ∙ c .before .if1 .taken))
 
-line-of-requires : tie.Need-line-of-requires
-line-of-requires c κs = search needs
-
 touched-after-requires : tie.Need-touched-after-requires
 touched-after-requires c κs =
-    let d = c .before .before .before in
-    let p = d .args .progress in
+    let d = c .before .before in
     let seen = d .pre .2 .1 in
-    let x = lineOf (p .picture .grid .columns) (p .picture .forward .x) in
-    let fit =
-    subst (λ (y : Line). VectorsFit 0x100 5 (p .frame .surface) (p .position) (d .args .words .now) x y (d .args .at / 9)) (sym (c .line-of .ensures)) (seen .forward-fit) in
-    (d .pre .0, omega arith, d .pre .1, (x, fit), seen .forward-end, omega (arith, c .before .if1 .left))
+    (d .pre .0, omega arith, d .pre .1, seen .forward-fit, seen .forward-end, omega (arith, c .if1 .left))
 
 returns-2 : tie.Need-returns-2
 returns-2 c = search needs
 
 pub forward-after-spec : {M : Type 1} → statement M
-forward-after-spec = tie.close (tie.spec returns line-of-requires touched-after-requires returns-2)
+forward-after-spec = tie.close (tie.spec returns touched-after-requires returns-2)

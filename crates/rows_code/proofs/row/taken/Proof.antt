@@ -18,11 +18,11 @@ sub-start c = omega (arith, c .before .before .pre .2 (omega (arith, c .if1 .lef
 sub-last : tie.Need-sub-last
 sub-last c = omega (arith, c .before .before .pre .2 (omega (arith, c .if1 .left)))
 
-forward-after-requires : tie.Need-forward-after-requires
-forward-after-requires c κs = search needs
-
 backward-after-requires : tie.Need-backward-after-requires
 backward-after-requires c κs = search needs
+
+forward-after-requires : tie.Need-forward-after-requires
+forward-after-requires c κs = search needs
 
 mul-after-row : tie.Need-mul-after-row
 mul-after-row c = search needs
@@ -45,7 +45,7 @@ returns-2 c =
     record {
       used-is = search needs;
       none = λ e. absurd (omega (arith, c .before .before .before .before .if1 .left));
-      some = λ e. c .after-row .ensures ∙ ap₂ (λ (x y : Extent). afterRow (a .progress) (a .column - 1) x y (take (a .at - (a .at - 9)) (drop (a .at - 9) (a .words .now)))) (c .before .before .before .forward-after .ensures) (c .before .before .backward-after .ensures);
+      some = λ e. c .after-row .ensures ∙ ap₂ (λ (x y : Extent). afterRow (a .progress) (a .column - 1) x y (take (a .at - (a .at - 9)) (drop (a .at - 9) (a .words .now)))) (c .before .before .forward-after .ensures) (c .before .before .before .backward-after .ensures);
     }
 
 pub taken-spec : {M : Type 1} → statement M
@@ -55,8 +55,8 @@ taken-spec =
     returns
     sub-start
     sub-last
-    forward-after-requires
     backward-after-requires
+    forward-after-requires
     mul-after-row
     sub-after-row
     part-after-row-start

@@ -47,8 +47,8 @@ returns-4 c =
       type = t;
       coding = search needs;
       forward-fits = simp (← c .before .before .before .before .before .before .before .before .before .before .before .before .before .before .before .before .before .pre, ← c .before .before .before .before .before .before .before .before .before .before .before .before .before .before .word-at .ensures, ← c .before .before .before .before .before .before .before .vector-in-lines .ensures) (kept refl (c .before .before .before .before .before .before .if2 .left));
-      backward-fits = simp (← c .before .before .before .before .before .before .before .before .before .before .before .before .before .before .before .before .before .pre, ← c .before .before .before .before .before .before .before .before .before .before .before .before .before .word-at2 .ensures, ← c .before .before .before .before .before .vector-in-lines2 .ensures) (kept refl (c .before .before .before .before .if3 .left));
-      forward-is = c .before .before .join-ends .ensures ∙ join-end _ _ ∙ ap (max _) (c .before .before .before .reach-end .ensures ∙ ap (λ (w : ℕ). reachIn (c .before .before .before .before .before .before .before .before .before .before .before .before .before .before .before .before .before .args .progress) (c .before .before .before .before .before .before .before .before .before .before .before .before .before .before .before .before .before .args .column) w .end) (c .before .before .before .before .before .before .before .before .before .before .before .before .before .before .word-at .ensures));
+      backward-fits = simp (← c .before .before .before .before .before .before .before .before .before .before .before .before .before .before .before .before .before .pre, ← c .before .before .before .before .before .before .before .before .before .before .before .before .before .word-at2 .ensures, ← c .before .before .before .vector-in-lines2 .ensures) (kept refl (c .before .before .if3 .left));
+      forward-is = c .before .before .before .before .join-ends .ensures ∙ join-end _ _ ∙ ap (max _) (c .before .before .before .before .before .reach-end .ensures ∙ ap (λ (w : ℕ). reachIn (c .before .before .before .before .before .before .before .before .before .before .before .before .before .before .before .before .before .args .progress) (c .before .before .before .before .before .before .before .before .before .before .before .before .before .before .before .before .before .args .column) w .end) (c .before .before .before .before .before .before .before .before .before .before .before .before .before .before .word-at .ensures));
       backward-is = c .join-ends2 .ensures ∙ join-end _ _ ∙ ap (max _) (c .before .reach-end2 .ensures ∙ ap (λ (w : ℕ). reachIn (c .before .before .before .before .before .before .before .before .before .before .before .before .before .before .before .before .before .args .progress) (c .before .before .before .before .before .before .before .before .before .before .before .before .before .before .before .before .before .args .column) w .end) (c .before .before .before .before .before .before .before .before .before .before .before .before .before .word-at2 .ensures));
     }
 
@@ -61,10 +61,10 @@ judge-both-spec =
     returns
     vector-in-lines-requires
     returns-2
-    vector-in-lines-requires-2
-    returns-3
     reach-end-requires
     join-ends-requires
+    vector-in-lines-requires-2
+    returns-3
     reach-end-requires-2
     join-ends-requires-2
     returns-4)
