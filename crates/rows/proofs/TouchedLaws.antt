@@ -115,8 +115,8 @@ module _ (alone word : ℕ) (s : Surface) (at : Position) (ws : List ℕ) where
       there i h = getD-take 9 (drop (9 * k) ws) i 0 h ∙ getD-drop (9 * k) ws i 0
 
   -- A first byte that is no higher than the floor of the row from the k-th command on stays.
-  module _ (x y : Line) (n : ℕ) (e : Extent) (fit : VectorsFit alone word s at ws x y n) (k : ℕ) (some : 0 < After k e .end)
-      (low : After k e .first ≤ floorOf s (at .column + k) (x .low) (at .row) (y .low)) where
+  module _ (x y : Line) (n : ℕ) (e : Extent) (fit : VectorsFit alone word s at ws x y n) (k : ℕ)
+      (some : 0 < touchedAfter alone word s at ws k e .end) (low : touchedAfter alone word s at ws k e .first ≤ floorOf s (at .column + k) (x .low) (at .row) (y .low)) where
     abbrev Stays : ℕ → Type 0
     Stays j = (0 < After j e .end) × (After j e .first ≡ After k e .first)
 
