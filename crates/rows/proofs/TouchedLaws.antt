@@ -16,7 +16,7 @@ use Rattle.prediction.specs.declared.Extent.{Extent}
 use Rattle.prediction.specs.declared.Line.{Line}
 use Rattle.prediction.specs.declared.Position.{Position}
 use Rattle.prediction.specs.declared.Surface.{Surface}
-use Rattle.prediction.proofs.ExtentLaws.{join-left, join-both, join-end, join-nothing, join-first, join-empty}
+use Rattle.prediction.proofs.ExtentLaws.{between, join-left, join-both, join-end, join-nothing, join-first, join-empty}
 use Rattle.prediction.proofs.LineLaws.{above-floor, first-fits}
 use Rattle.rows.specs.Touching.{commandAt, usesVector, reachAt, touchedBy, touchedAfter, VectorsFit, AllTouch, lowestOf}
 
@@ -78,11 +78,14 @@ module _ (alone word : ℕ) (s : Surface) (at : Position) (ws : List ℕ) where
   fit-touches x y n fit k h u = above-floor s (record { column = at .column + k; row = at .row }) (at .column + k) x y (wordAt (commandAt ws k) word) (omega arith) (fit k h u) .1
 
   -- Where nothing is touched in the end, nothing has changed.
-  pub after-nothing : (k : ℕ) (e : Extent) → After k e .end ≡ 0 → After k e ≡ e
-  after-nothing zero e z = refl
-  after-nothing (suc k) e z =
+  nothing-changed : (k : ℕ) (e : Extent) → After k e .end ≡ 0 → After k e ≡ e
+  nothing-changed zero e z = refl
+  nothing-changed (suc k) e z =
       let same = join-nothing (After k e) (touchedBy alone word s at ws k) z in
-      same ∙ after-nothing k e (sym (ap (λ (x : Extent). x .end) same) ∙ z)
+      same ∙ nothing-changed k e (sym (ap (λ (x : Extent). x .end) same) ∙ z)
+
+  pub after-nothing : (k : ℕ) (e : Extent) (end : ℕ) → end ≡ After k e .end → end ≡ 0 → between (e .first) end ≡ After k e
+  after-nothing k e end here none = ap₂ between (ap (λ (x : Extent). x .first) (sym (nothing-changed k e (sym here ∙ none)))) here
 
   -- The minimum goes on with one command more.
   pub lowest-next : (n : ℕ) (e : Extent) → AllTouch alone word s at ws n → (k : ℕ) → k < n → reachAt alone word s at ws k .first < 2 ^ 64
@@ -136,7 +139,12 @@ module _ (alone word : ℕ) (s : Surface) (at : Position) (ws : List ℕ) where
         let one : k + d + 1 ≡ k + suc d = omega arith in
         subst Stays one (stays-next (k + d) (omega arith) (omega arith) _ refl (stays-on d (omega arith)))
 
-    pub after-above : k ≤ n → touchedAfter alone word s at ws n e .first ≡ touchedAfter alone word s at ws k e .first
+    pub after-above : k ≤ n → lowestOf (touchedAfter alone word s at ws n e) ≡ lowestOf (touchedAfter alone word s at ws k e)
     after-above h =
         let all : k + (n - k) ≡ n = omega arith in
-        subst Stays all (stays-on (n - k) (omega arith)) .1
+        let stays = subst Stays all (stays-on (n - k) (omega arith)) in
+        lowest-first (After n e) (stays .0) ∙ stays .1 ∙ sym (lowest-first (After k e) some)
+
+  -- What is touched in the end, from its end and its first byte.
+  pub after-is : (k : ℕ) (e : Extent) (first end : ℕ) → end ≡ After k e .end → 0 < end → first ≡ lowestOf (After k e) → between first end ≡ After k e
+  after-is k e first end here some is = ap₂ between (is ∙ lowest-first (After k e) (omega arith)) here

@@ -3,14 +3,15 @@
 // word `word`.
 use picture::Codes;
 use prediction::Extent;
+use prediction::Grid;
+use prediction::Position;
 use prediction::Surface;
-use progress::Progress;
 ghost use mathlib.Core.Bool.{cond};
 ghost use mathlib.Core.Path.{_≡_};
 ghost use Prim.Native.Nat.{_+_, _/_, _≤_, _<_, min};
 ghost use lib.ListN.{length};
 ghost use Rattle.prediction.specs.Lines.{lineOf, reachOf};
-ghost use Rattle.rows.specs.Touching.{usesVector, touchedAfter, VectorsFit, lowestOf};
+ghost use Rattle.rows.specs.Touching.{usesVector, VectorsFit, lowestOf, Lowered};
 
 // Whether a command with this word 1 is predicted from the reference.
 fn uses(alone: u32, one: u32) -> bool
@@ -22,7 +23,7 @@ fn uses(alone: u32, one: u32) -> bool
 }
 
 // The first byte, for a minimum.
-fn lowest(extent: Extent) -> u64
+pub(crate) fn lowest(extent: Extent) -> u64
     ensures { λ r. ⌜ r ≡ lowestOf extent ⌝ }
 {
     if extent.end == 0 {
@@ -49,36 +50,37 @@ fn first_next(
     prediction_code::first_with(first, surface, column, row, vector)
 }
 
-// What is touched of the reference after the commands before word `at`, which touch it up to `end`, where that is some byte. The look ends
-// where no block from there on can begin before the first byte so far, which in most rows is at once.
-pub(crate) fn touched_after(
-    progress: Progress,
+// The first byte that is touched of the reference after the commands before word `at`, where `first` is the one before them. The look ends
+// where no block from there on can begin before it, which in most rows is at once. Numbers and small structs alone come and go: an extent would be lent
+// as memory, and the whole progress with it.
+pub(crate) fn first_after(
+    surface: Surface,
+    grid: Grid,
+    position: Position,
     codes: Codes,
     alone: u32,
     word: usize,
-    extent: Extent,
-    end: u64,
+    first: u64,
     at: usize,
     words: &[u32],
-) -> Extent
-    requires { ⌜ (at ≤ length (now words)) × (word < 9) × (progress .position .column + at / 9 < 65536) × VectorsFit alone word (progress .frame .surface) (progress .position) (now words) (lineOf (progress .picture .grid .columns) (codes .x)) (lineOf (progress .picture .grid .rows) (codes .y)) (at / 9) × (end ≡ touchedAfter alone word (progress .frame .surface) (progress .position) (now words) (at / 9) extent .end) × (0 < end) ⌝ }
-    ensures { λ r. ⌜ r ≡ touchedAfter alone word (progress .frame .surface) (progress .position) (now (words .entry)) (at / 9) extent ⌝ }
+) -> u64
+    requires { ⌜ (at ≤ length (now words)) × (word < 9) × (position .column + at / 9 < 65536) × VectorsFit alone word surface position (now words) (lineOf (grid .columns) (codes .x)) (lineOf (grid .rows) (codes .y)) (at / 9) ⌝ }
+    ensures { λ r. ⌜ Lowered alone word surface position (now (words .entry)) (at / 9) first r ⌝ }
 {
-    let surface = progress.frame.surface;
-    let row = progress.position.row;
-    let across = prediction_code::line_of(progress.picture.grid.columns, codes.x);
-    let down = prediction_code::line_of(progress.picture.grid.rows, codes.y);
+    let row = position.row;
+    let across = prediction_code::line_of(grid.columns, codes.x);
+    let down = prediction_code::line_of(grid.rows, codes.y);
     let left = across.low;
     let low = down.low;
-    let mut first = lowest(extent);
-    let mut column = progress.position.column;
+    let mut lowest = first;
+    let mut column = position.column;
     let mut i = 0;
     while i + 9 <= at {
-        if first <= prediction_code::floor_of(surface, column, left, row, low) {
+        if lowest <= prediction_code::floor_of(surface, column, left, row, low) {
             break;
         }
-        first = first_next(
-            first,
+        lowest = first_next(
+            lowest,
             surface,
             column,
             row,
@@ -89,5 +91,5 @@ pub(crate) fn touched_after(
         column += 1;
         i += 9;
     }
-    Extent { first, end }
+    lowest
 }

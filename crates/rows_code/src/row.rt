@@ -47,38 +47,50 @@ fn forward_after(progress: Progress, end: u64, at: usize, words: &[u32]) -> Exte
     requires { ⌜ (at ≤ length (now words)) × (progress .position .column + at / 9 < 65536) × ((b : ℕ) × Seen progress (now words) (at / 9) end b) ⌝ }
     ensures { λ r. ⌜ r ≡ forwardAfter progress (now (words .entry)) (at / 9) ⌝ }
 {
+    let extent = progress.extents.forward;
     if end == 0 {
-        return progress.extents.forward;
+        return Extent {
+            first: extent.first,
+            end,
+        };
     }
-    looking::touched_after(
-        progress,
+    let first = looking::first_after(
+        progress.frame.surface,
+        progress.picture.grid,
+        progress.position,
         progress.picture.forward,
         0x100,
         5,
-        progress.extents.forward,
-        end,
+        looking::lowest(extent),
         at,
         words,
-    )
+    );
+    Extent { first, end }
 }
 
 fn backward_after(progress: Progress, end: u64, at: usize, words: &[u32]) -> Extent
     requires { ⌜ (at ≤ length (now words)) × (progress .position .column + at / 9 < 65536) × ((f : ℕ) × Seen progress (now words) (at / 9) f end) ⌝ }
     ensures { λ r. ⌜ r ≡ backwardAfter progress (now (words .entry)) (at / 9) ⌝ }
 {
+    let extent = progress.extents.backward;
     if end == 0 {
-        return progress.extents.backward;
+        return Extent {
+            first: extent.first,
+            end,
+        };
     }
-    looking::touched_after(
-        progress,
+    let first = looking::first_after(
+        progress.frame.surface,
+        progress.picture.grid,
+        progress.position,
         progress.picture.backward,
         0x200,
         6,
-        progress.extents.backward,
-        end,
+        looking::lowest(extent),
         at,
         words,
-    )
+    );
+    Extent { first, end }
 }
 
 // What the commands before word `at` come to, of which the last stands before this column. `forward` and `backward` are the ends of
