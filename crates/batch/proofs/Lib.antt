@@ -6,6 +6,7 @@ pub mod Measuring
 pub mod Numbers
 pub mod ReadAlone
 pub mod Runs
+pub mod Verdicts
 pub mod WalkLaws
 -- for this crate alone
 mod Batches

@@ -54,6 +54,14 @@ TooShort a l b = lengthOf b l < lengthFor b a
 abbrev pub AllEnough : Reading → Lengths → Type 0
 AllEnough a l = (b : Buffer) → Enough a l b
 
+-- Two answers whose lengths are the same, whatever their first bytes; and two that say the same of their batches: the number and, where it
+-- refuses, the place.
+abbrev pub SameLengths : Reading → Reading → Type 0
+SameLengths a c = (b : Buffer) → lengthFor b a ≡ lengthFor b c
+
+abbrev pub SameVerdict : Reading → Reading → Type 0
+SameVerdict a c = (a .number ≡ c .number) × ((a .number ≡ 0) ⊎ (a .place ≡ c .place))
+
 -- A refusal by 13 that "names the lowest such buffer".
 pub record NamesLowest (a : Reading) (l : Lengths) : Type 0 where
   pub is-13 : a .number ≡ 13

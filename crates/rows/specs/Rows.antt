@@ -38,7 +38,7 @@ pub record TakenFrom (p : Progress) (ws : List ℕ) (r : Taken) : Type 0 where
 abbrev pub previousIn : List ℕ → Previous
 previousIn c = previousOf (kindIn (wordAt c 1)) c
 
--- A macroblock's own samples, of all from the progress's column to this one: from the first byte of the first to the end of the last.
+-- The own samples of all macroblocks from the progress's column to this one: from the first byte of the first to the end of the last.
 abbrev pub ownIn : Progress → ℕ → Extent
 ownIn p column = record { first = reachIn p (p .position .column) 0 .first; end = reachIn p column 0 .end }
 

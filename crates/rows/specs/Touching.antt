@@ -53,7 +53,7 @@ module _ (alone word : ℕ) (s : Surface) (at : Position) (ws : List ℕ) where
 abbrev pub lowestOf : Extent → ℕ
 lowestOf e = cond (eqb (e .end) 0) 18446744073709551615 (e .first)
 
--- A number that is that of what was touched before the first k commands has become that of what is touched after them.
+-- If `before` is the first byte, for a minimum, of what was touched before the first k commands, `after` is that of what is touched after them.
 abbrev pub Lowered : ℕ → ℕ → Surface → Position → List ℕ → ℕ → ℕ → ℕ → Type 0
 Lowered alone word s at ws k before after = (e : Extent) → before ≡ lowestOf e → after ≡ lowestOf (touchedAfter alone word s at ws k e)
 
