@@ -6,7 +6,6 @@ use crate::extents;
 use crate::ranges::exponent;
 use crate::spans;
 use crate::vectors::vector_of;
-use prediction::Extent;
 use prediction::Line;
 use prediction::Surface;
 ghost use mathlib.Core.Path.{_≡_};

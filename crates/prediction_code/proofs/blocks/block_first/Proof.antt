@@ -1,10 +1,9 @@
 -- `block_first`: the first byte of a block that does not start before the picture.
-use mathlib.Core.Path.{_≡_, refl, sym, ap₂, _∙_}
-use mathlib.Core.Bool.{Bool}
-use Prim.Native.Nat.{ℕ, _+_, _*_, _/_, _-_, _≤_, _<_, min}
+use mathlib.Core.Path.{refl, sym, ap₂, _∙_}
+use Prim.Native.Nat.{_+_, _*_, _/_, _-_, min}
 use native.Mathlib.Omega.{arith}
 use borrow.Author.Tests.{leb-true, ltb-true}
-use lib.Dec.{leb, ltb}
+use lib.Dec.{leb}
 use Rattle.prediction.specs.Addresses.{address}
 use Rattle.prediction.proofs.Integers.{both}
 use Rattle.prediction.proofs.AddressGrows.{address-tiles}
