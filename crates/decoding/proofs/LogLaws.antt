@@ -1,16 +1,16 @@
 -- Records in their places of a log.
 use mathlib.Core.Bool.{Bool, true, false, cond}
-use mathlib.Core.List.{List, [], _∷_, _++_, append-assoc, append-nil, map, flatten}
+use mathlib.Core.List.{List, [], _∷_, _++_, append-assoc, map, flatten}
 use mathlib.Core.Path.{_≡_, refl, sym, _∙_, ap}
 use Prim.Native.Nat.{ℕ, suc, _+_, _*_, _-_, _≤_}
 use native.Mathlib.Nat.{add-zero}
 use native.Mathlib.Omega.{arith}
 use lib.ListN.{length, take, drop, length-append, length-drop, take-append-drop}
-use lib.Seq.{length-take-le, take-all, take-at, drop-at, drop-drop, drop-length}
+use lib.Seq.{length-take-le, take-at, drop-at, drop-drop}
 use borrow.Author.Tests.{le-ltb}
-use borrow.Rule.Slice.PartMut.{midOf, putMid, post-is}
+use borrow.Rule.Slice.PartMut.{midOf, putMid}
 use Rattle.answers.specs.Lending.{lentAfter, roomFor}
-use Rattle.lists.proofs.Slices.{pieces-length}
+use Rattle.lists.proofs.Slices.{part-rest, part-back, pieces-length}
 use Rattle.lists.proofs.Booleans.{no}
 use Rattle.fields.specs.Word.{flag}
 use Rattle.macroblock.specs.Macroblocks.{macroblockOf}
@@ -94,14 +94,6 @@ none-written false k m log e = (sym (add-zero k), sym (take-append-drop (24 * k)
 
 -- A record written into the part of the log from the k-th place on.
 module _ (k : ℕ) (m : List ℕ) (x : Macroblock) (log part : List ℕ) (is : x ≡ macroblockOf m) (l : 24 * (k + 1) ≤ length log) where
-  lent : midOf (24 * k) (length log - 24 * k) log ≡ drop (24 * k) log
-  lent = take-all (length log - 24 * k) (drop (24 * k) log) (omega (arith, length-drop (24 * k) log))
-
-  back : putMid (24 * k) (length log - 24 * k) log part ≡ take (24 * k) log ++ part
-  back =
-      ap (λ (z : List ℕ). take (24 * k) log ++ (part ++ z)) (post-is (24 * k) (length log) log (omega arith) ∙ drop-length log)
-      ∙ ap (λ (z : List ℕ). take (24 * k) log ++ z) (append-nil part)
-
   in-part : part ≡ lentAfter (roomFor recordLength (drop (24 * k) log)) (recordOf x) (drop (24 * k) log)
       → part ≡ recordAlone m ++ drop (24 * (k + 1)) log
   in-part e =
@@ -119,8 +111,8 @@ pub one-written : (b : Bool) (k : ℕ) (m : List ℕ) (x : Macroblock) (log part
     → (k + 1 ≡ k + flag b)
     × (putMid (24 * k) (length log - 24 * k) log part ≡ take (24 * k) log ++ (cond b (recordAlone m) [] ++ drop (24 * (k + 1)) log))
 one-written true k m x log part t l is e =
-    let stands = in-part k m x log part is l (rw (lent k m x log part is l) at e) in
-    (refl, back k m x log part is l ∙ ap (λ (z : List ℕ). take (24 * k) log ++ z) stands)
+    let stands = in-part k m x log part is l (rw (part-rest (24 * k) log) at e) in
+    (refl, part-back (24 * k) log part (omega arith) ∙ ap (λ (z : List ℕ). take (24 * k) log ++ z) stands)
 one-written false k m x log part t l is e = absurd (no t)
 
 -- The log while it is written: the command at word `at` comes next, and the next record is the k-th.

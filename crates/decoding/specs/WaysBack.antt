@@ -1,9 +1,10 @@
 -- From the log of a batch back to its commands. Demand 2: "either way back gives the same bits".
 -- Proved: `decoded-back` (proofs/WaysBack.antt), of every batch that is decoded.
-use Prim.Native.Nat.{ℕ, zero, suc, _*_, _≤_, _<_}
+use Prim.Native.Nat.{ℕ, zero, suc, _≤_, _<_}
 use mathlib.Core.List.{List, [], _∷_}
 use mathlib.Core.Path.{_≡_}
-use lib.ListN.{length, getD, take, drop}
+use lib.ListN.{length, getD, take}
+use Rattle.fields.specs.Parts.{recordAt}
 use Rattle.answers.specs.declared.Answer.the-variants.{Accepted}
 use Rattle.commands.specs.Commands.{commandsOf, macroblocksIn}
 use Rattle.records.specs.Alone.{writeAnswer, writeRoom}
@@ -11,7 +12,7 @@ use Rattle.records.specs.Layout.{recordLength}
 
 -- The k-th record of a log: "each is written at its own 24-byte place of the lent log".
 abbrev pub recordIn : List ℕ → ℕ → List ℕ
-recordIn log k = take recordLength (drop (recordLength * k) log)
+recordIn log k = recordAt recordLength log k
 
 -- The nine words that stand in front of lent words after the k-th record of a log was written there.
 abbrev pub commandFrom : List ℕ → List ℕ → ℕ → List ℕ

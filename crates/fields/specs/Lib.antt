@@ -1,3 +1,4 @@
 pub mod Word
 pub mod Bytes
+pub mod Parts
 pub mod Pieces

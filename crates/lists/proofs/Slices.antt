@@ -1,11 +1,12 @@
 -- Parts of a list, as slices are lent and filled; lists of one length, one behind the other.
-use mathlib.Core.List.{List, [], _∷_, _++_, append-assoc, flatten, foldl, foldl-append, map}
+use mathlib.Core.List.{List, [], _∷_, _++_, append-nil, append-assoc, flatten, foldl, foldl-append, map}
 use mathlib.Core.Path.{_≡_, refl, sym, ap, ap₂, _∙_}
 use Prim.Native.Nat.{ℕ, zero, suc, _+_, _*_, _-_, _≤_, _<_}
 use native.Mathlib.Nat.{mul-zero, mul-suc}
 use native.Mathlib.Omega.{arith}
+use borrow.Rule.Slice.PartMut.{putMid, post-is}
 use lib.ListN.{length, getD, take, drop, length-append, length-drop, take-append-drop}
-use lib.Seq.{length-take-le, take-all, take-at, drop-at, drop-drop}
+use lib.Seq.{length-take-le, take-all, take-at, drop-at, drop-drop, drop-length}
 
 -- a list of no elements
 pub no-length : {A : Type 0} (xs : List A) → length xs ≡ 0 → xs ≡ []
@@ -18,6 +19,12 @@ part-zero m xs = let e : m - 0 ≡ m = omega arith in ap (λ (k : ℕ). take k x
 
 pub part-rest : (at : ℕ) (xs : List ℕ) → take (length xs - at) (drop at xs) ≡ drop at xs
 part-rest at xs = let left = length-drop at xs in take-all (length xs - at) (drop at xs) (omega arith)
+
+-- The part to the end was lent, and is put back: what stands before it stays.
+pub part-back : (at : ℕ) (xs part : List ℕ) → at ≤ length xs → putMid at (length xs - at) xs part ≡ take at xs ++ part
+part-back at xs part l =
+    ap (λ (z : List ℕ). take at xs ++ (part ++ z)) (post-is at (length xs) xs l ∙ drop-length xs)
+    ∙ ap (λ (z : List ℕ). take at xs ++ z) (append-nil part)
 
 -- the same part by equal numbers
 pub same-part : (xs : List ℕ) {n m i j : ℕ} → n ≡ m → i ≡ j → take n (drop i xs) ≡ take m (drop j xs)

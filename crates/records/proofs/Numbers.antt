@@ -20,7 +20,8 @@ use Rattle.records.specs.Alone.{readFault, readAnswer, recordFault, writ
 use Rattle.records.specs.Layout.{recordLength, kindPart, fillerPart, forwardPart, backwardPart}
 use Rattle.records.specs.Numbers.{readPlaces, recordPlaces, writePlaces}
 use Rattle.records.specs.RecordRules.{hasForward, hasBackward, unusedPart, byteRules, zeroRules, recordRules}
-use Rattle.records.specs.Records.{valueAt, macroblockIn}
+use Rattle.records.specs.Records.{macroblockIn}
+use Rattle.fields.specs.Parts.{valueAt}
 
 read-fault : (words : List ℕ) → OneOf (readPlaces words) (readFault words)
 unfolding readFault commandRules fieldRules vectorRules

@@ -12,7 +12,9 @@ use Rattle.fields.proofs.Fields.{flag-back}
 use Rattle.lists.proofs.Booleans.{and-left, and-right, both-true}
 use Rattle.fields.specs.Word.{isSet, flag, packed}
 use Rattle.fields.specs.Bytes.{bytesOf, numberIn, elements, Bytes}
+use Rattle.fields.specs.Parts.{Part, valueAt}
 use Rattle.fields.proofs.Elements.{elements-all}
+use Rattle.fields.proofs.PartLaws.{part-bytes, number-lt}
 use Rattle.fields.proofs.LittleEndian.{bytes-back, number-back}
 use Rattle.fields.proofs.Packing.{packed-field, packed-is}
 use Rattle.prediction.specs.Vectors.{vectorOf}
@@ -33,8 +35,8 @@ use Rattle.macroblock.specs.declared.Motion.{Motion}
 use Rattle.macroblock.proofs.CaseLaws.{kind-most, case-fits, case-back, motion-lt}
 use Rattle.macroblock.proofs.CommandLaws.{flag-again, bit-again, quantiser-lt}
 use Rattle.macroblock.proofs.Congruence.{same-flags, same-macroblock}
-use Rattle.records.specs.Layout.{Part, columnPart, rowPart, upperPart, kindPart, skipPart, patternPart, maxSizePart, targetSizePart, quantiserPart, flagsPart, fillerPart, forwardPart, backwardPart}
-use Rattle.records.specs.Records.{flagFields, flagsOf, valueAt, recordedMotion, recordOf, macroblockIn}
+use Rattle.records.specs.Layout.{columnPart, rowPart, upperPart, kindPart, skipPart, patternPart, maxSizePart, targetSizePart, quantiserPart, flagsPart, fillerPart, forwardPart, backwardPart}
+use Rattle.records.specs.Records.{flagFields, flagsOf, recordedMotion, recordOf, macroblockIn}
 use Rattle.records.specs.RecordRules.{hasForward, hasBackward, zeroBytes, unusedPart, byteRules, zeroRules, recordRules}
 use Rattle.records.proofs.FlagsByte.{flags-lt, flags-fit}
 use Rattle.records.proofs.Spelling.{bytesBy, flag-most, flag-fits, spelled}
@@ -171,26 +173,6 @@ module _ (m : Macroblock) (l : Legal m) where
       zeros-kept)
 
 -- From a record to its macroblock and back.
-byte-lt : (bs : List ℕ) → Bytes bs → (i : ℕ) → getD bs i 0 < 256
-byte-lt [] h i = omega arith
-byte-lt (b ∷ bs) h zero = h .0
-byte-lt (b ∷ bs) h (suc i) = byte-lt bs (h .1) i
-
-part-bytes : (bs : List ℕ) → Bytes bs → (i k : ℕ) → Bytes (elements bs i k)
-part-bytes bs h i zero = tt
-part-bytes bs h i (suc k) = (byte-lt bs h i, part-bytes bs h (suc i) k)
-
--- the number of bytes is below what they can hold, and one byte's number is that byte
-number-lt : (bs : List ℕ) → Bytes bs → numberIn bs < 256 ^ length bs
-number-lt [] h = omega arith
-number-lt (b ∷ bs) h =
-    let up = number-lt bs (h .1) in
-    let low = h .0 in
-    subst (λ (x : ℕ). b + 256 * numberIn bs < x) (sym (pow-suc 256 (length bs))) (joined b (numberIn bs) (256 ^ length bs) low up)
-  where
-    joined : (b n p : ℕ) → b < 256 → n < p → b + 256 * n < p * 256
-    joined b n p hb hn = omega arith
-
 one : (b : ℕ) → numberIn (b ∷ []) ≡ b
 one b = omega arith
 

@@ -2,18 +2,11 @@
 -- little-endian".
 -- To be believed: document 01's bytes.
 use Prim.Native.Nat.{ℕ}
+use Rattle.fields.specs.Parts.{Part, part}
 
 -- How many bytes a record has.
 abbrev pub recordLength : ℕ
 recordLength = 24
-
--- A part of a record: its first byte, and how many bytes it has.
-pub record Part : Type 0 where
-  pub first : ℕ
-  pub count : ℕ
-
-abbrev pub part : ℕ → ℕ → Part
-part first count = record { first = first; count = count }
 
 -- "0 column, 2 row, 4 upper half of word 1 (each two bytes)"
 abbrev pub columnPart : Part

@@ -7,10 +7,11 @@ use mathlib.Core.List.{List, [], _∷_, _++_}
 use lib.Dec.{eqb, leb}
 use lib.ListN.{getD}
 use Rattle.answers.specs.Answers.{Rule, rule}
+use Rattle.fields.specs.Parts.{Part, valueAt}
 use Rattle.macroblock.specs.Rules.{keptBy}
 use Rattle.macroblock.specs.declared.Kept.{Kept}
-use Rattle.records.specs.Layout.{Part, kindPart, skipPart, patternPart, quantiserPart, flagsPart, fillerPart, forwardPart, backwardPart}
-use Rattle.records.specs.Records.{valueAt, macroblockIn}
+use Rattle.records.specs.Layout.{kindPart, skipPart, patternPart, quantiserPart, flagsPart, fillerPart, forwardPart, backwardPart}
+use Rattle.records.specs.Records.{macroblockIn}
 
 -- Which kinds have a vector: "1 forward, 2 backward, 3 both".
 abbrev pub hasForward : ℕ → Bool

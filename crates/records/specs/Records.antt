@@ -2,32 +2,13 @@
 -- To be believed: the record of a macroblock. Reading it is proved against it, by `record-back` (proofs/RecordLaws.antt).
 use Prim.Native.Nat.{ℕ}
 use mathlib.Core.List.{List, [], _∷_}
-use lib.ListN.{replicate}
-use lib.Seq.{sets}
 use Rattle.fields.specs.Word.{Field, bits, isSet, flag, field, packed}
-use Rattle.fields.specs.Bytes.{bytesOf, numberIn, elements}
+use Rattle.fields.specs.Parts.{Entry, entry, laid, valueAt}
 use Rattle.macroblock.specs.Cases.{motion, motionOf, caseOf}
 use Rattle.macroblock.specs.declared.Flags.{Flags}
 use Rattle.macroblock.specs.declared.Macroblock.{Macroblock}
 use Rattle.macroblock.specs.declared.Motion.{Motion}
-use Rattle.records.specs.Layout.{recordLength, Part, columnPart, rowPart, upperPart, kindPart, skipPart, patternPart, maxSizePart, targetSizePart, quantiserPart, flagsPart, forwardPart, backwardPart}
-
--- A part with the number that it holds.
-pub record Entry : Type 0 where
-  pub place : Part
-  pub value : ℕ
-
-abbrev pub entry : Part → ℕ → Entry
-entry p v = record { place = p; value = v }
-
--- The bytes of a record in which the listed parts hold their numbers and all others are zero.
-abbrev pub laid : List Entry → List ℕ
-laid [] = replicate recordLength 0
-laid (e ∷ es) = sets (laid es) (e .place .first) (bytesOf (e .place .count) (e .value))
-
--- The number that a part of a record holds.
-abbrev pub valueAt : Part → List ℕ → ℕ
-valueAt p bytes = numberIn (elements bytes (p .first) (p .count))
+use Rattle.records.specs.Layout.{recordLength, columnPart, rowPart, upperPart, kindPart, skipPart, patternPart, maxSizePart, targetSizePart, quantiserPart, flagsPart, forwardPart, backwardPart}
 
 -- "12 flags, bits 0 to 5: first slice, last slice, first group, last group, clamp, no conversion"
 abbrev pub flagFields : Flags → List Field
@@ -69,7 +50,7 @@ entries m =
     ∷ []
 
 unfoldable pub recordOf : Macroblock → List ℕ
-recordOf m = laid (entries m)
+recordOf m = laid recordLength (entries m)
 
 -- The kind and the vectors of a record.
 abbrev pub recordedMotion : List ℕ → Motion

@@ -4,7 +4,8 @@ use mathlib.Core.Path.{_∙_}
 use Rattle.answers.proofs.Judging.{judged-append}
 use Rattle.macroblock.specs.Rules.{keptBy}
 use Rattle.records.specs.Layout.{kindPart}
-use Rattle.records.specs.Records.{valueAt, macroblockIn}
+use Rattle.fields.specs.Parts.{valueAt}
+use Rattle.records.specs.Records.{macroblockIn}
 use Rattle.records.specs.RecordRules.{byteRules, zeroRules, recordRules}
 use borrow.Author.Needs.{needs}
 use Rattle.records_code.proofs.rules.first_bad.Statement.{statement}
