@@ -1,4 +1,5 @@
 pub mod Handing
+pub mod Mounting
 pub mod Promises
 pub mod Summaries
 pub mod Version

@@ -1,0 +1,126 @@
+-- Adding: what each refusal and an acceptance come from, and what an acceptance says.
+use mathlib.Core.Path.{_≡_, refl, sym, ap, subst, _∙_}
+use mathlib.Core.Bool.{Bool, true, false, cond}
+use mathlib.Core.List.{List, _++_, append-assoc}
+use Prim.Native.Nat.{ℕ, suc, _+_, _*_, _≤_, _<_}
+use native.Mathlib.Omega.{arith}
+use borrow.Author.Tests.{leb-true, ltb-true, ltb-false, eqb-true, le-leb, lt-leb, le-ltb, lt-ltb, eq-eqb, ne-eqb}
+use lib.Dec.{T, eqb, leb, ltb}
+use lib.ListN.{length, take, drop}
+use lib.Seq.{sets, sets-eq, drop-drop}
+use Rattle.mounts.proofs.SheetLaws.{record-length}
+use Rattle.lists.proofs.Booleans.{no}
+use Rattle.answers.specs.Answers.{Rule, rule, answerBy, unless}
+use Rattle.answers.specs.declared.Answer.{Answer}
+use Rattle.answers.specs.declared.Answer.the-variants.{Accepted, Refused}
+use Rattle.answers.proofs.Judging.{no-accepted}
+use Rattle.mounts.specs.Editions.{newest, nextEdition, editionOf, highestEdition}
+use Rattle.mounts.specs.Mounts.{storedFault, firstBad, addAnswer, added, bytesAfter}
+use Rattle.mounts.specs.Sheets.{recordOf, sheetsIn, capacity}
+use Rattle.mounts.specs.declared.Newest.{Newest}
+use Rattle.mounts.specs.declared.Sheet.{Sheet}
+
+-- Lent bytes that hold so many records.
+pub fits-exactly : (bytes : List ℕ) (count : ℕ) → count ≤ capacity bytes → 16 * count ≤ length bytes
+fits-exactly bytes count l = omega arith
+
+-- Stored sheets none of which is bad.
+pub stored-judged : (bytes : List ℕ) (count : ℕ) → count ≤ capacity bytes → storedFault bytes count ≡ firstBad count bytes
+unfolding storedFault
+stored-judged bytes count l = simp (le-ltb (capacity bytes) count l)
+
+pub record Sound (bytes : List ℕ) (count : ℕ) : Type 0 where
+  pub held : count ≤ capacity bytes
+  pub good : firstBad count bytes ≡ Accepted
+
+pub stored-sound : (bytes : List ℕ) (count : ℕ) → storedFault bytes count ≡ Accepted → Sound bytes count
+unfolding storedFault
+stored-sound bytes count e = by (ltb (capacity bytes) count) refl e
+  where
+    by : (b : Bool) → ltb (capacity bytes) count ≡ b → cond b (Refused 20 (capacity bytes)) (firstBad count bytes) ≡ Accepted → Sound bytes count
+    by true t r = absurd (no-accepted r)
+    by false t r = record { held = ltb-false (capacity bytes) count t; good = r }
+
+pub sound-stored : (bytes : List ℕ) (count : ℕ) → Sound bytes count → storedFault bytes count ≡ Accepted
+sound-stored bytes count s = stored-judged bytes count (s .held) ∙ s .good
+
+-- A rule behind an answer.
+unless-accepted : (a : Answer) (r : Rule) → unless a r ≡ Accepted → (a ≡ Accepted) × (r .holds ≡ true)
+unless-accepted Accepted r e = (refl, by (r .holds) e)
+  where
+    by : (b : Bool) → cond b Accepted (Refused (r .number) (r .place)) ≡ Accepted → b ≡ true
+    by true x = refl
+    by false x = absurd (no-accepted x)
+unless-accepted (Refused n p) r e = absurd (no-accepted e)
+
+-- What is added: the stored sheets are sound, and the side, the edition and the room are right.
+pub record Addable (bytes : List ℕ) (count : ℕ) (s : Sheet) : Type 0 where
+  pub sound : Sound bytes count
+  pub side : s .side ≤ 1
+  pub edition : s .edition ≡ nextEdition (s .boat) (sheetsIn count bytes)
+  pub room : count < capacity bytes
+
+pub add-addable : (bytes : List ℕ) (count : ℕ) (s : Sheet) → addAnswer bytes count s ≡ Accepted → Addable bytes count s
+unfolding addAnswer
+add-addable bytes count s e =
+    let next = nextEdition (s .boat) (sheetsIn count bytes) in
+    let last = unless-accepted _ (rule 14 0 (ltb count (capacity bytes))) e in
+    let third = unless-accepted _ (rule 21 0 (eqb (s .edition) next)) (last .0) in
+    let second = unless-accepted (storedFault bytes count) (rule 22 0 (leb (s .side) 1)) (third .0) in
+    record {
+      sound = stored-sound bytes count (second .0);
+      side = leb-true (s .side) 1 (second .1);
+      edition = eqb-true (s .edition) next (third .1);
+      room = ltb-true count (capacity bytes) (last .1);
+    }
+
+pub addable-added : (bytes : List ℕ) (count : ℕ) (s : Sheet) → Addable bytes count s → addAnswer bytes count s ≡ Accepted
+unfolding addAnswer
+addable-added bytes count s a =
+    simp (sound-stored bytes count (a .sound), le-leb (s .side) 1 (a .side), eq-eqb (s .edition) (nextEdition (s .boat) (sheetsIn count bytes)) (a .edition), lt-ltb count (capacity bytes) (a .room))
+
+-- Each refusal in its turn.
+module _ (bytes : List ℕ) (count : ℕ) (s : Sheet) where
+  pub first-refused : (n p : ℕ) → storedFault bytes count ≡ Refused n p → addAnswer bytes count s ≡ Refused n p
+  unfolding addAnswer
+  first-refused n p e = simp e
+
+  pub side-refused : storedFault bytes count ≡ Accepted → 1 < s .side → addAnswer bytes count s ≡ Refused 22 0
+  unfolding addAnswer
+  side-refused e h = simp (e, lt-leb (s .side) 1 h)
+
+  pub edition-refused : storedFault bytes count ≡ Accepted → s .side ≤ 1 → (s .edition ≡ nextEdition (s .boat) (sheetsIn count bytes) → ⊥)
+      → addAnswer bytes count s ≡ Refused 21 0
+  unfolding addAnswer
+  edition-refused e h other = simp (e, le-leb (s .side) 1 h, ne-eqb (s .edition) (nextEdition (s .boat) (sheetsIn count bytes)) other)
+
+  pub room-refused : storedFault bytes count ≡ Accepted → s .side ≤ 1 → s .edition ≡ nextEdition (s .boat) (sheetsIn count bytes) → capacity bytes ≤ count
+      → addAnswer bytes count s ≡ Refused 14 0
+  unfolding addAnswer
+  room-refused e h is full = simp (e, le-leb (s .side) 1 h, eq-eqb (s .edition) (nextEdition (s .boat) (sheetsIn count bytes)) is, le-ltb count (capacity bytes) full)
+
+-- The next edition, from the boat's newest sheet.
+pub next-after : (boat : ℕ) (bytes : List ℕ) (count : ℕ) (m : Newest) (next : ℕ) → m ≡ newest boat highestEdition (sheetsIn count bytes) → next ≡ editionOf m + 1
+    → next ≡ nextEdition boat (sheetsIn count bytes)
+unfolding nextEdition
+next-after boat bytes count m next em en = en ∙ ap (λ (x : Newest). editionOf x + 1) em
+
+-- What is answered and left: where a rule is broken, and where the record was put behind the last.
+pub add-refused : (bytes : List ℕ) (count : ℕ) (s : Sheet) (a : Answer) (n p : ℕ) → a ≡ addAnswer bytes count s → a ≡ Refused n p
+    → (record { answer = a; count = count } ≡ added bytes count s) × (bytes ≡ bytesAfter bytes count s)
+unfolding added bytesAfter
+add-refused bytes count s a n p e r = simp (← e, r) (refl, refl)
+
+pub add-accepted : (bytes : List ℕ) (count : ℕ) (s : Sheet) (part : List ℕ) → addAnswer bytes count s ≡ Accepted → part ≡ recordOf s ++ drop 16 (drop (16 * count) bytes)
+    → (record { answer = Accepted; count = count + 1 } ≡ added bytes count s) × (take (16 * count) bytes ++ part ≡ bytesAfter bytes count s)
+unfolding added bytesAfter
+add-accepted bytes count s part e w =
+    let a = add-addable bytes count s e in
+    let one : count + 1 ≡ suc count = omega arith in
+    let long = record-length s in
+    let fits = fits-exactly bytes (suc count) (a .room) in
+    let there : take (16 * count) bytes ++ part ≡ sets bytes (16 * count) (recordOf s) =
+    ap (λ (z : List ℕ). take (16 * count) bytes ++ z) (w ∙ ap (λ (z : List ℕ). recordOf s ++ z) (drop-drop 16 (16 * count) bytes ∙ ap (λ (n : ℕ). drop (16 * count + n) bytes) (sym long)))
+    ∙ sym (append-assoc (take (16 * count) bytes) (recordOf s) (drop (16 * count + length (recordOf s)) bytes))
+    ∙ sym (sets-eq (recordOf s) bytes (16 * count) (omega arith)) in
+    simp e (ap (λ (n : ℕ). record { answer = Accepted; count = n }) one, there)

@@ -1,0 +1,6 @@
+-- for the crates above
+pub mod EditionLaws
+pub mod SheetLaws
+pub mod StoredLaws
+pub mod SignLaws
+pub mod AddLaws

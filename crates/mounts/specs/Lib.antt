@@ -1,0 +1,5 @@
+pub mod Editions
+pub mod Layout
+pub mod Mounts
+pub mod Sheets
+pub mod Signs
