@@ -1,10 +1,11 @@
 -- Mount sheets, as structs of numbers: document 02's numbers and places (R-9), and what the exported functions promise.
--- To be believed: the structs' fields. `mount-fields` (proofs/MountLaws.antt) reads them in their order.
+-- To be believed: the structs' fields. `found-fields`, `added-fields` and `turned-fields` (proofs/MountLaws.antt) read them in their order.
 use Prim.Native.Nat.{ℕ}
 use lib.IntN.{ℤ, pos}
 use mathlib.Core.List.{List}
 use mathlib.Core.Path.{_≡_}
 use Rattle.answers.specs.Answers as answer
+use Rattle.mounts.specs.Claims.{Book, Call, lentWith}
 use Rattle.mounts.specs.Mounts.{asked, added, bytesAfter}
 use Rattle.mounts.specs.Sheets.{sheet}
 use Rattle.mounts.specs.Signs.{shift, vectorOn}
@@ -39,3 +40,14 @@ MountAdded before count boat edition side m after =
 
 abbrev pub MountTurned : ℕ → ℤ → ℤ → MountShift → Type 0
 MountTurned side x y m = m ≡ mountShiftOf (vectorOn side (shift x y))
+
+-- A call of hromulice_add_mount: the sheets are handed over as they were returned, with any bytes behind them, and it left these bytes and this number.
+abbrev pub MountStep : Book → Call → Book → Type 0
+MountStep b c r =
+    (m : Mounts) × MountAdded (lentWith b (c .beyond)) (b .count) (c .new .boat) (c .new .edition) (c .new .side) m (r .bytes) × (r .count ≡ m .count)
+
+-- What hromulice_ask_mount answers for an edition that the boat has: number 0, and that very edition.
+pub record MountHas (b : Book) (boat edition : ℕ) (m : Mount) : Type 0 where
+  pub asked : MountAsked (b .bytes) (b .count) boat edition m
+  pub accepted : m .number ≡ 0
+  pub its-own : m .edition ≡ edition

@@ -2,22 +2,26 @@
 use mathlib.Core.Path.{_≡_, refl, sym, ap, subst, _∙_}
 use mathlib.Core.Bool.{Bool, true, false, cond}
 use mathlib.Core.List.{List, _++_, append-assoc}
-use Prim.Native.Nat.{ℕ, suc, _+_, _*_, _≤_, _<_}
+use Prim.Native.Nat.{ℕ, suc, _+_, _*_, _^_, _≤_, _<_}
 use native.Mathlib.Omega.{arith}
 use borrow.Author.Tests.{leb-true, ltb-true, ltb-false, eqb-true, le-leb, lt-leb, le-ltb, lt-ltb, eq-eqb, ne-eqb}
+use mathlib.Core.Logic.{inl, inr}
 use lib.Dec.{T, eqb, leb, ltb}
 use lib.ListN.{length, take, drop}
 use lib.Seq.{sets, sets-eq, drop-drop}
 use Rattle.mounts.proofs.SheetLaws.{record-length}
+use Rattle.mounts.proofs.StoredLaws.{bad-place}
 use Rattle.lists.proofs.Booleans.{no}
-use Rattle.answers.specs.Answers.{Rule, rule, answerBy, unless}
+use Rattle.answers.specs.Answers.{Rule, numberOf, placeOf, rule, answerBy, unless}
 use Rattle.answers.specs.declared.Answer.{Answer}
 use Rattle.answers.specs.declared.Answer.the-variants.{Accepted, Refused}
 use Rattle.answers.proofs.Judging.{no-accepted}
+use Rattle.mounts.specs.Claims.{AddRefusal}
 use Rattle.mounts.specs.Editions.{newest, nextEdition, editionOf, highestEdition}
 use Rattle.mounts.specs.Mounts.{storedFault, firstBad, addAnswer, added, bytesAfter}
 use Rattle.mounts.specs.Sheets.{recordOf, sheetsIn, capacity}
 use Rattle.mounts.specs.declared.Newest.{Newest}
+use Rattle.mounts.specs.declared.Newest.the-variants.{At}
 use Rattle.mounts.specs.declared.Sheet.{Sheet}
 
 -- Lent bytes that hold so many records.
@@ -45,7 +49,7 @@ pub sound-stored : (bytes : List ℕ) (count : ℕ) → Sound bytes count → st
 sound-stored bytes count s = stored-judged bytes count (s .held) ∙ s .good
 
 -- A rule behind an answer.
-unless-accepted : (a : Answer) (r : Rule) → unless a r ≡ Accepted → (a ≡ Accepted) × (r .holds ≡ true)
+pub unless-accepted : (a : Answer) (r : Rule) → unless a r ≡ Accepted → (a ≡ Accepted) × (r .holds ≡ true)
 unless-accepted Accepted r e = (refl, by (r .holds) e)
   where
     by : (b : Bool) → cond b Accepted (Refused (r .number) (r .place)) ≡ Accepted → b ≡ true
@@ -124,3 +128,36 @@ add-accepted bytes count s part e w =
     ∙ sym (append-assoc (take (16 * count) bytes) (recordOf s) (drop (16 * count + length (recordOf s)) bytes))
     ∙ sym (sets-eq (recordOf s) bytes (16 * count) (omega arith)) in
     simp e (ap (λ (n : ℕ). record { answer = Accepted; count = n }) one, there)
+
+-- "none follows 4294967295": behind the highest edition every 32-bit one is refused.
+pub none-follows : (bytes : List ℕ) (count : ℕ) (s t : Sheet) → storedFault bytes count ≡ Accepted → s .side ≤ 1 → s .edition < 2 ^ 32
+    → newest (s .boat) highestEdition (sheetsIn count bytes) ≡ At t → t .edition ≡ highestEdition → addAnswer bytes count s ≡ Refused 21 0
+none-follows bytes count s t e h fits n highest =
+    let next = next-after (s .boat) bytes count (At t) (t .edition + 1) (sym n) refl in
+    edition-refused bytes count s e h (λ same. absurd (omega (arith, same, next)))
+
+-- The numbers and places of refusals.
+pub fault-place : (bytes : List ℕ) (count n p : ℕ) → storedFault bytes count ≡ Refused n p → (n ≡ 20) × (p < count)
+unfolding storedFault
+fault-place bytes count n p e = by (ltb (capacity bytes) count) refl e
+  where
+    by : (b : Bool) → ltb (capacity bytes) count ≡ b → cond b (Refused 20 (capacity bytes)) (firstBad count bytes) ≡ Refused n p → (n ≡ 20) × (p < count)
+    by true t x = (sym (ap numberOf x), subst (λ (i : ℕ). i < count) (ap placeOf x) (ltb-true (capacity bytes) count t))
+    by false t x = let b = bad-place bytes count n p x in (b .0, b .1 .counted)
+
+pub add-numbers : (bytes : List ℕ) (count : ℕ) (s : Sheet) (n p : ℕ) → addAnswer bytes count s ≡ Refused n p → AddRefusal count n p
+unfolding addAnswer
+add-numbers bytes count s n p e =
+    by (storedFault bytes count) (leb (s .side) 1) (eqb (s .edition) (nextEdition (s .boat) (sheetsIn count bytes))) (ltb count (capacity bytes)) refl e
+  where
+    at : (m : ℕ) → _≡_ {A = Answer} (Refused m 0) (Refused n p) → (n ≡ m) × (p ≡ 0)
+    at m x = (sym (ap numberOf x), sym (ap placeOf x))
+
+    by : (f : Answer) (side edition room : Bool) → storedFault bytes count ≡ f
+        → unless (unless (unless f (rule 22 0 side)) (rule 21 0 edition)) (rule 14 0 room) ≡ Refused n p → AddRefusal count n p
+    by (Refused m q) side edition room f x =
+        inl (let o = fault-place bytes count m q f in (sym (ap numberOf x) ∙ o .0, subst (λ (i : ℕ). i < count) (ap placeOf x) (o .1)))
+    by Accepted false edition room f x = let y = at 22 x in inr (inl (y .0), y .1)
+    by Accepted true false room f x = let y = at 21 x in inr (inr (inl (y .0)), y .1)
+    by Accepted true true false f x = let y = at 14 x in inr (inr (inr (y .0)), y .1)
+    by Accepted true true true f x = absurd (no-accepted (sym x))

@@ -10,6 +10,7 @@ use lib.ListN.{length, getD}
 use Rattle.lists.proofs.Booleans.{and-left, and-right, both-true, same}
 use Rattle.fields.specs.Bytes.{bytesOf, numberIn, elements, Bytes}
 use Rattle.fields.specs.Parts.{Part, part, valueAt}
+use Rattle.fields.proofs.Elements.{elements-all}
 use Rattle.fields.proofs.LittleEndian.{bytes-back, number-back}
 use Rattle.fields.proofs.PartLaws.{value-there, part-bytes, number-lt}
 use Rattle.mounts.specs.Layout.{sheetLength, boatPart, editionPart, sidePart, fillerPart}
@@ -27,6 +28,10 @@ record-length s = refl
 pub sheet-back : (s : Sheet) → s .boat < 2 ^ 32 → s .edition < 2 ^ 32 → s .side < 256 → sheetIn (recordOf s) ≡ s
 unfolding recordOf
 sheet-back s hb he hs = same-sheet (number-back 4 (s .boat) hb) (number-back 4 (s .edition) he) (number-back 1 (s .side) hs)
+
+pub filler-zero : (s : Sheet) → valueAt fillerPart (recordOf s) ≡ 0
+unfolding recordOf
+filler-zero s = refl
 
 -- The bytes of a record, one by one.
 pub record-listed : (s : Sheet) (bs es : List ℕ) → bs ≡ bytesOf 4 (s .boat) → es ≡ bytesOf 4 (s .edition) → s .side < 256
@@ -75,3 +80,26 @@ zero-filler bytes k n e =
     let sum = getD bytes (at + 9) 0 + 256 * (getD bytes (at + 10) 0 + 256 * (getD bytes (at + 11) 0 + 256 * n)) in
     let all : sum ≡ numberIn (elements bytes (at + 9) 7) = rw (e, e1, e2, e3) (refl) in
     zero-each (getD bytes (at + 9) 0) (getD bytes (at + 10) 0) (getD bytes (at + 11) 0) n ∙ ap (λ (x : ℕ). eqb x 0) (all ∙ sym (filler-there bytes k))
+
+same-bytes : {b0 b1 b2 b3 b4 b5 b6 b7 b8 s z9 z10 z11 z12 z13 z14 z15 : ℕ} → s ≡ b8 → z9 ≡ 0 → z10 ≡ 0 → z11 ≡ 0 → z12 ≡ 0 → z13 ≡ 0 → z14 ≡ 0 → z15 ≡ 0
+    → _≡_ {A = List ℕ}
+    (b0 ∷ b1 ∷ b2 ∷ b3 ∷ b4 ∷ b5 ∷ b6 ∷ b7 ∷ s ∷ 0 ∷ 0 ∷ 0 ∷ 0 ∷ 0 ∷ 0 ∷ 0 ∷ [])
+    (b0 ∷ b1 ∷ b2 ∷ b3 ∷ b4 ∷ b5 ∷ b6 ∷ b7 ∷ b8 ∷ z9 ∷ z10 ∷ z11 ∷ z12 ∷ z13 ∷ z14 ∷ z15 ∷ [])
+same-bytes es e9 e10 e11 e12 e13 e14 e15 = cc
+
+-- A record with zero filler comes back from its sheet, all its bytes.
+pub record-again : (r : List ℕ) → Bytes r → length r ≡ 16 → valueAt fillerPart r ≡ 0 → recordOf (sheetIn r) ≡ r
+record-again r h n z =
+    let four : (i : ℕ) → elements r i 4 ≡ bytesOf 4 (numberIn (elements r i 4)) = λ i. sym (bytes-back (elements r i 4) (part-bytes r h i 4)) in
+    let one : numberIn (elements r 8 1) ≡ getD r 8 0 = omega arith in
+    let side = number-lt (elements r 8 1) (part-bytes r h 8 1) in
+    let e9 : getD r 9 0 ≡ 0 = omega (arith, z) in
+    let e10 : getD r 10 0 ≡ 0 = omega (arith, z) in
+    let e11 : getD r 11 0 ≡ 0 = omega (arith, z) in
+    let e12 : getD r 12 0 ≡ 0 = omega (arith, z) in
+    let e13 : getD r 13 0 ≡ 0 = omega (arith, z) in
+    let e14 : getD r 14 0 ≡ 0 = omega (arith, z) in
+    let e15 : getD r 15 0 ≡ 0 = omega (arith, z) in
+    sym (record-listed (sheetIn r) (elements r 0 4) (elements r 4 4) (four 0) (four 4) side)
+    ∙ same-bytes one e9 e10 e11 e12 e13 e14 e15
+    ∙ elements-all r 16 n

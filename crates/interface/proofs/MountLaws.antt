@@ -1,0 +1,73 @@
+-- Mount sheets through the exported functions: the fields of their answers, and no later adding changes an edition that a boat has.
+use mathlib.Core.List.{List}
+use mathlib.Core.Path.{_≡_, refl, sym, ap, _∙_}
+use mathlib.Core.Logic.{inl, inr}
+use Prim.Native.Nat.{ℕ, _^_, _<_}
+use native.Mathlib.Omega.{arith}
+use lib.IntN.{ℤ}
+use Rattle.answers.specs.Answers as answer
+use Rattle.lists.specs.Calls.{Along}
+use Rattle.lists.proofs.Stepping.{along-view}
+use Rattle.mounts.specs.Claims.{Book, Call, lentWith, AddStep, HasEdition, AskRefusal, AddRefusal}
+use Rattle.mounts.specs.Mounts.{asked, added, addAnswer, bytesAfter}
+use Rattle.mounts.specs.Sheets.{sheet}
+use Rattle.mounts.specs.Signs.{shift, vectorOn}
+use Rattle.mounts.specs.declared.Added.{Added}
+use Rattle.mounts.specs.declared.Asked.{Asked}
+use Rattle.mounts.specs.declared.Asked.the-variants.{Found, Refused}
+use Rattle.mounts.specs.declared.Shift.{Shift}
+use Rattle.mounts.specs.declared.Sheet.{Sheet}
+use Rattle.mounts.specs.declared.Turned.{Turned}
+use Rattle.mounts.specs.declared.Turned.the-variants as turning
+use Rattle.mounts.proofs.Finding.{ask-numbers}
+use Rattle.mounts.proofs.Later.{later-adding}
+use Rattle.interface.specs.Mounting.{mountOf, mountsOf, mountShiftOf, MountAsked, MountAdded, MountStep, MountHas}
+use Rattle.interface.specs.declared.Mount.{Mount}
+use Rattle.interface.specs.declared.Mounts.{Mounts}
+
+-- The fields of what is found, of what is added and of what is turned; and those of a refusal.
+pub found-fields : (s : Sheet) → (mountOf (Found s) .number ≡ 0) × (mountOf (Found s) .place ≡ 0) × (mountOf (Found s) .edition ≡ s .edition) × (mountOf (Found s) .side ≡ s .side)
+found-fields s = (refl, refl, refl, refl)
+
+pub not-found-fields : (n p : ℕ) → (mountOf (Refused n p) .number ≡ n) × (mountOf (Refused n p) .place ≡ p)
+not-found-fields n p = (refl, refl)
+
+pub added-fields : (a : Added) → (mountsOf a .number ≡ answer.numberOf (a .answer)) × (mountsOf a .place ≡ answer.placeOf (a .answer)) × (mountsOf a .count ≡ a .count)
+added-fields a = (refl, refl, refl)
+
+pub turned-fields : (v : Shift) → (mountShiftOf (turning.Vector v) .x ≡ v .x) × (mountShiftOf (turning.Vector v) .y ≡ v .y)
+turned-fields v = (refl, refl)
+
+pub not-turned-fields : (n p : ℕ) → (mountShiftOf (turning.Refused n p) .number ≡ n) × (mountShiftOf (turning.Refused n p) .place ≡ p)
+not-turned-fields n p = (refl, refl)
+
+-- One exported call is one call.
+one-call : (b : Book) (c : Call) (r : Book) → MountStep b c r → AddStep b c r
+unfolding added
+one-call b c r s = record { bytes = s .1 .1; count = s .2 ∙ ap (λ (m : Mounts). m .count) (s .1 .0) }
+
+-- Number 0 is given for a sheet alone.
+has-found : (b : Book) (boat edition : ℕ) (m : Mount) → MountHas b boat edition m → (s : Sheet) × (HasEdition b boat edition s) × (m ≡ mountOf (Found s))
+has-found b boat edition m h = by (asked (b .bytes) (b .count) boat edition) refl
+  where
+    by : (a : Asked) → asked (b .bytes) (b .count) boat edition ≡ a → (s : Sheet) × (HasEdition b boat edition s) × (m ≡ mountOf (Found s))
+    by (Found s) e =
+        let is = h .asked ∙ ap mountOf e in
+        (s, record { found = e; its-own = sym (ap (λ (x : Mount). x .edition) is) ∙ h .its-own }, is)
+    by (Refused n p) e = absurd (zero (ask-numbers (b .bytes) (b .count) boat edition n p e))
+      where
+        number : n ≡ 0
+        number = sym (ap (λ (x : Mount). x .number) (h .asked ∙ ap mountOf e)) ∙ h .accepted
+
+        zero : AskRefusal (b .count) n p → ⊥
+        zero (inl x) = let y = x .0 in let z = number in absurd (omega arith)
+        zero (inr x) = let y = x .0 in let z = number in absurd (omega arith)
+
+-- Document 02's claim, of the exported functions: for every list of later calls of hromulice_add_mount, accepted or refused, what hromulice_ask_mount answers for
+-- an edition that the boat already had stays the same.
+pub mounts-stay : (b : Book) (calls : List Call) (r : Book) (boat edition : ℕ) (m n : Mount) → edition < 2 ^ 32 → Along MountStep b calls r
+    → MountHas b boat edition m → MountAsked (r .bytes) (r .count) boat edition n → n ≡ m
+mounts-stay b calls r boat edition m n h steps has again =
+    let before = has-found b boat edition m has in
+    let after = later-adding b calls r boat edition (before .0) h (along-view (λ (x : Book). x) MountStep AddStep one-call b calls r steps) (before .1) in
+    again ∙ ap mountOf (after .found) ∙ sym (before .2)
