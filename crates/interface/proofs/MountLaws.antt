@@ -1,11 +1,14 @@
 -- Mount sheets through the exported functions: the fields of their answers, and no later adding changes an edition that a boat has.
 use mathlib.Core.List.{List}
-use mathlib.Core.Path.{_≡_, refl, sym, ap, _∙_}
-use mathlib.Core.Logic.{inl, inr}
+use mathlib.Core.Path.{_≡_, refl, sym, ap, subst, _∙_}
+use mathlib.Core.Logic.{_⊎_, inl, inr}
 use Prim.Native.Nat.{ℕ, _^_, _<_}
 use native.Mathlib.Omega.{arith}
-use lib.IntN.{ℤ}
+use lib.IntN.{ℤ, negℤ}
 use Rattle.answers.specs.Answers as answer
+use Rattle.answers.specs.declared.Answer.{Answer}
+use Rattle.answers.specs.declared.Answer.the-variants.{Accepted}
+use Rattle.answers.specs.declared.Answer.the-variants.{Refused as Declined}
 use Rattle.lists.specs.Calls.{Along}
 use Rattle.lists.proofs.Stepping.{along-view}
 use Rattle.mounts.specs.Claims.{Book, Call, lentWith, AddStep, HasEdition, AskRefusal, AddRefusal}
@@ -19,11 +22,14 @@ use Rattle.mounts.specs.declared.Shift.{Shift}
 use Rattle.mounts.specs.declared.Sheet.{Sheet}
 use Rattle.mounts.specs.declared.Turned.{Turned}
 use Rattle.mounts.specs.declared.Turned.the-variants as turning
+use Rattle.mounts.proofs.AddLaws.{add-numbers}
+use Rattle.mounts.proofs.SignLaws.{y-untouched, turn-numbers}
 use Rattle.mounts.proofs.Finding.{ask-numbers}
 use Rattle.mounts.proofs.Later.{later-adding}
-use Rattle.interface.specs.Mounting.{mountOf, mountsOf, mountShiftOf, MountAsked, MountAdded, MountStep, MountHas}
+use Rattle.interface.specs.Mounting.{mountOf, mountsOf, mountShiftOf, MountAsked, MountAdded, MountTurned, MountStep, MountHas}
 use Rattle.interface.specs.declared.Mount.{Mount}
 use Rattle.interface.specs.declared.Mounts.{Mounts}
+use Rattle.interface.specs.declared.MountShift.{MountShift}
 
 -- The fields of what is found, of what is added and of what is turned; and those of a refusal.
 pub found-fields : (s : Sheet) → (mountOf (Found s) .number ≡ 0) × (mountOf (Found s) .place ≡ 0) × (mountOf (Found s) .edition ≡ s .edition) × (mountOf (Found s) .side ≡ s .side)
@@ -71,3 +77,38 @@ mounts-stay b calls r boat edition m n h steps has again =
     let before = has-found b boat edition m has in
     let after = later-adding b calls r boat edition (before .0) h (along-view (λ (x : Book). x) MountStep AddStep one-call b calls r steps) (before .1) in
     again ∙ ap mountOf (after .found) ∙ sym (before .2)
+
+-- The sign, of the exported function: y is the y that was measured, and x is x or its negative.
+pub mount-y-untouched : (side : ℕ) (x y : ℤ) (m : MountShift) → MountTurned side x y m → m .number ≡ 0 → (m .y ≡ y) × ((m .x ≡ x) ⊎ (m .x ≡ negℤ x))
+mount-y-untouched side x y m e accepted = by (vectorOn side (shift x y)) refl
+  where
+    by : (t : Turned) → vectorOn side (shift x y) ≡ t → (m .y ≡ y) × ((m .x ≡ x) ⊎ (m .x ≡ negℤ x))
+    by (turning.Vector v) f =
+        let is = e ∙ ap mountShiftOf f in
+        let w = y-untouched side (shift x y) v f in
+        (ap (λ (u : MountShift). u .y) is ∙ w .0, either (ap (λ (u : MountShift). u .x) is) (w .1))
+      where
+        either : m .x ≡ v .x → (v .x ≡ x) ⊎ (v .x ≡ negℤ x) → (m .x ≡ x) ⊎ (m .x ≡ negℤ x)
+        either s (inl t) = inl (s ∙ t)
+        either s (inr t) = inr (s ∙ t)
+    by (turning.Refused n p) f = absurd (zero (turn-numbers side (shift x y) n p f .0))
+      where
+        number : n ≡ 0
+        number = sym (ap (λ (u : MountShift). u .number) (e ∙ ap mountShiftOf f)) ∙ accepted
+
+        zero : (n ≡ 22) ⊎ (n ≡ 23) → ⊥
+        zero (inl t) = let z = number in absurd (omega arith)
+        zero (inr t) = let z = number in absurd (omega arith)
+
+-- What include/hromulice.h says of the numbers that each function gives.
+pub add-answers : (before : List ℕ) (count boat edition side : ℕ) (m : Mounts) (after : List ℕ) → MountAdded before count boat edition side m after
+    → (m .number ≡ 0) ⊎ AddRefusal count (m .number) (m .place)
+unfolding added
+add-answers before count boat edition side m after e = by (addAnswer before count (sheet boat edition side)) refl
+  where
+    by : (a : Answer) → addAnswer before count (sheet boat edition side) ≡ a → (m .number ≡ 0) ⊎ AddRefusal count (m .number) (m .place)
+    by Accepted f = inl (ap (λ (u : Mounts). u .number) (e .0) ∙ ap answer.numberOf f)
+    by (Declined n p) f =
+        inr
+        (subst (λ (i : ℕ). AddRefusal count i (m .place)) (sym (ap (λ (u : Mounts). u .number) (e .0) ∙ ap answer.numberOf f))
+        (subst (AddRefusal count n) (sym (ap (λ (u : Mounts). u .place) (e .0) ∙ ap answer.placeOf f)) (add-numbers before count (sheet boat edition side) n p f)))

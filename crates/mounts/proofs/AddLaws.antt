@@ -19,7 +19,7 @@ use Rattle.answers.proofs.Judging.{no-accepted}
 use Rattle.mounts.specs.Claims.{AddRefusal}
 use Rattle.mounts.specs.Editions.{newest, nextEdition, editionOf, highestEdition}
 use Rattle.mounts.specs.Mounts.{storedFault, firstBad, addAnswer, added, bytesAfter}
-use Rattle.mounts.specs.Sheets.{recordOf, sheetsIn, capacity}
+use Rattle.mounts.specs.Sheets.{sheetRecord, sheetsIn, capacity}
 use Rattle.mounts.specs.declared.Newest.{Newest}
 use Rattle.mounts.specs.declared.Newest.the-variants.{At}
 use Rattle.mounts.specs.declared.Sheet.{Sheet}
@@ -115,7 +115,7 @@ pub add-refused : (bytes : List ℕ) (count : ℕ) (s : Sheet) (a : Answer) (n p
 unfolding added bytesAfter
 add-refused bytes count s a n p e r = simp (← e, r) (refl, refl)
 
-pub add-accepted : (bytes : List ℕ) (count : ℕ) (s : Sheet) (part : List ℕ) → addAnswer bytes count s ≡ Accepted → part ≡ recordOf s ++ drop 16 (drop (16 * count) bytes)
+pub add-accepted : (bytes : List ℕ) (count : ℕ) (s : Sheet) (part : List ℕ) → addAnswer bytes count s ≡ Accepted → part ≡ sheetRecord s ++ drop 16 (drop (16 * count) bytes)
     → (record { answer = Accepted; count = count + 1 } ≡ added bytes count s) × (take (16 * count) bytes ++ part ≡ bytesAfter bytes count s)
 unfolding added bytesAfter
 add-accepted bytes count s part e w =
@@ -123,10 +123,10 @@ add-accepted bytes count s part e w =
     let one : count + 1 ≡ suc count = omega arith in
     let long = record-length s in
     let fits = fits-exactly bytes (suc count) (a .room) in
-    let there : take (16 * count) bytes ++ part ≡ sets bytes (16 * count) (recordOf s) =
-    ap (λ (z : List ℕ). take (16 * count) bytes ++ z) (w ∙ ap (λ (z : List ℕ). recordOf s ++ z) (drop-drop 16 (16 * count) bytes ∙ ap (λ (n : ℕ). drop (16 * count + n) bytes) (sym long)))
-    ∙ sym (append-assoc (take (16 * count) bytes) (recordOf s) (drop (16 * count + length (recordOf s)) bytes))
-    ∙ sym (sets-eq (recordOf s) bytes (16 * count) (omega arith)) in
+    let there : take (16 * count) bytes ++ part ≡ sets bytes (16 * count) (sheetRecord s) =
+    ap (λ (z : List ℕ). take (16 * count) bytes ++ z) (w ∙ ap (λ (z : List ℕ). sheetRecord s ++ z) (drop-drop 16 (16 * count) bytes ∙ ap (λ (n : ℕ). drop (16 * count + n) bytes) (sym long)))
+    ∙ sym (append-assoc (take (16 * count) bytes) (sheetRecord s) (drop (16 * count + length (sheetRecord s)) bytes))
+    ∙ sym (sets-eq (sheetRecord s) bytes (16 * count) (omega arith)) in
     simp e (ap (λ (n : ℕ). record { answer = Accepted; count = n }) one, there)
 
 -- "none follows 4294967295": behind the highest edition every 32-bit one is refused.

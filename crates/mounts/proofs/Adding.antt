@@ -14,9 +14,9 @@ use Rattle.fields.specs.Parts.{valueAt}
 use Rattle.lists.proofs.Booleans.{both-true}
 use Rattle.mounts.specs.Claims.{AddLeaves}
 use Rattle.mounts.specs.Editions.{newest, nextEdition}
-use Rattle.mounts.specs.Layout.{fillerPart}
+use Rattle.mounts.specs.Layout.{sheetFillerPart}
 use Rattle.mounts.specs.Mounts.{goodAfter, goodAt, firstBad, storedFault, asked, addAnswer, added, addedCount, addedBytes, bytesAfter}
-use Rattle.mounts.specs.Sheets.{recordOf, sheetIn, stored, sheetsIn, capacity}
+use Rattle.mounts.specs.Sheets.{sheetRecord, sheetIn, stored, sheetsIn, capacity}
 use Rattle.mounts.specs.declared.Asked.the-variants.{Found}
 use Rattle.mounts.specs.declared.Newest.{Newest}
 use Rattle.mounts.specs.declared.Newest.the-variants.{At}
@@ -36,7 +36,7 @@ refused-leaves bytes count s n p e = simp e (refl, refl)
 
 -- The record of a sheet with one of the two sides and its boat's next edition is good.
 record-good : (before : List Sheet) (s : Sheet) → s .boat < 2 ^ 32 → s .edition < 2 ^ 32 → s .side ≤ 1 → s .edition ≡ nextEdition (s .boat) before
-    → goodAfter before (recordOf s) ≡ true
+    → goodAfter before (sheetRecord s) ≡ true
 record-good before s hb he hs next =
     ap₂ (λ (t : Sheet) (filler : ℕ). leb (t .side) 1 && (eqb filler 0 && eqb (t .edition) (nextEdition (t .boat) before))) (sheet-back s hb he (omega arith)) (filler-zero s)
     ∙ both-true (le-leb (s .side) 1 hs) (both-true (eq-eqb 0 0 refl) (eq-eqb (s .edition) (nextEdition (s .boat) before) next))
@@ -56,38 +56,38 @@ module _ (bytes : List ℕ) (count : ℕ) (s : Sheet) (e : addAnswer bytes count
   unfolding added
   added-count = simp e
 
-  three : after ≡ take at bytes ++ (recordOf s ++ drop (at + length (recordOf s)) bytes)
+  three : after ≡ take at bytes ++ (sheetRecord s ++ drop (at + length (sheetRecord s)) bytes)
   unfolding bytesAfter
   three =
       let long = record-length s in
       let l = room in
-      simp e (sets-eq (recordOf s) bytes at (omega arith) ∙ append-assoc (take at bytes) (recordOf s) (drop (at + length (recordOf s)) bytes))
+      simp e (sets-eq (sheetRecord s) bytes at (omega arith) ∙ append-assoc (take at bytes) (sheetRecord s) (drop (at + length (sheetRecord s)) bytes))
 
   front : length (take at bytes) ≡ at
   front = let l = room in length-take-le at bytes (omega arith)
 
   same-length : length after ≡ length bytes
   unfolding bytesAfter
-  same-length = simp e (length-sets bytes at (recordOf s))
+  same-length = simp e (length-sets bytes at (sheetRecord s))
 
   before-it : take at after ≡ take at bytes
-  before-it = ap (take at) three ∙ take-at (take at bytes) (recordOf s ++ drop (at + length (recordOf s)) bytes) at front
+  before-it = ap (take at) three ∙ take-at (take at bytes) (sheetRecord s ++ drop (at + length (sheetRecord s)) bytes) at front
 
-  behind : drop at after ≡ recordOf s ++ drop (at + length (recordOf s)) bytes
-  behind = ap (drop at) three ∙ drop-at (take at bytes) (recordOf s ++ drop (at + length (recordOf s)) bytes) at front
+  behind : drop at after ≡ sheetRecord s ++ drop (at + length (sheetRecord s)) bytes
+  behind = ap (drop at) three ∙ drop-at (take at bytes) (sheetRecord s ++ drop (at + length (sheetRecord s)) bytes) at front
 
-  the-record : stored after count ≡ recordOf s
-  the-record = ap (take 16) behind ∙ take-at (recordOf s) (drop (at + length (recordOf s)) bytes) 16 (record-length s)
+  the-record : stored after count ≡ sheetRecord s
+  the-record = ap (take 16) behind ∙ take-at (sheetRecord s) (drop (at + length (sheetRecord s)) bytes) 16 (record-length s)
 
   beyond-it : drop (16 * suc count) after ≡ drop (16 * suc count) bytes
   beyond-it =
       let sum : 16 * suc count ≡ at + 16 = omega arith in
       let long = record-length s in
-      let whole : at + length (recordOf s) ≡ 16 * suc count = omega arith in
+      let whole : at + length (sheetRecord s) ≡ 16 * suc count = omega arith in
       ap (λ (i : ℕ). drop i after) sum
       ∙ sym (drop-drop 16 at after)
       ∙ ap (drop 16) behind
-      ∙ drop-at (recordOf s) (drop (at + length (recordOf s)) bytes) 16 (record-length s)
+      ∙ drop-at (sheetRecord s) (drop (at + length (sheetRecord s)) bytes) 16 (record-length s)
       ∙ ap (λ (i : ℕ). drop i bytes) whole
 
   pub add-leaves : AddLeaves bytes count s after

@@ -6,7 +6,7 @@ use Prim.Native.Nat.{ℕ, zero, suc, _+_, _≤_, _<_}
 use native.Mathlib.Omega.{arith}
 use borrow.Author.Tests.{ne-eqb}
 use lib.Dec.{eqb, leb}
-use Rattle.mounts.specs.Editions.{those, ofBoat, notAbove, lastOf, newest, editionOf}
+use Rattle.mounts.specs.Editions.{those, ofBoat, notAbove, latest, newest, editionOf}
 use Rattle.mounts.specs.Sheets.{sheetAt, sheetsIn}
 use Rattle.mounts.specs.declared.Newest.{Newest}
 use Rattle.mounts.specs.declared.Newest.the-variants.{At, Nothing}
@@ -22,16 +22,16 @@ those-both test (s ∷ ss) ts = by (test s) (those-both test ss ts)
     by true e = ap (λ (x : List Sheet). s ∷ x) e
     by false e = e
 
-pub last-both : (n : Newest) (ss ts : List Sheet) → lastOf n (ss ++ ts) ≡ lastOf (lastOf n ss) ts
+pub last-both : (n : Newest) (ss ts : List Sheet) → latest n (ss ++ ts) ≡ latest (latest n ss) ts
 last-both n [] ts = refl
 last-both n (s ∷ ss) ts = last-both (At s) ss ts
 
 -- The newest of sheets behind others.
-pub newest-both : (boat edition : ℕ) (ss ts : List Sheet) → newest boat edition (ss ++ ts) ≡ lastOf (newest boat edition ss) (notAbove edition (ofBoat boat ts))
+pub newest-both : (boat edition : ℕ) (ss ts : List Sheet) → newest boat edition (ss ++ ts) ≡ latest (newest boat edition ss) (notAbove edition (ofBoat boat ts))
 unfolding newest
 newest-both boat edition ss ts =
-    ap (λ (x : List Sheet). lastOf Nothing (notAbove edition x)) (those-both (λ s. eqb (s .boat) boat) ss ts)
-    ∙ ap (lastOf Nothing) (those-both (λ s. leb (s .edition) edition) (ofBoat boat ss) (ofBoat boat ts))
+    ap (λ (x : List Sheet). latest Nothing (notAbove edition x)) (those-both (λ s. eqb (s .boat) boat) ss ts)
+    ∙ ap (latest Nothing) (those-both (λ s. leb (s .edition) edition) (ofBoat boat ss) (ofBoat boat ts))
     ∙ last-both Nothing (notAbove edition (ofBoat boat ss)) (notAbove edition (ofBoat boat ts))
 
 -- One sheet more is the newest if it is the boat's and not above the edition.
@@ -39,11 +39,11 @@ pub newest-next : (boat edition : ℕ) (ss : List Sheet) (s : Sheet)
     → newest boat edition (ss ++ s ∷ []) ≡ cond (eqb (s .boat) boat && leb (s .edition) edition) (At s) (newest boat edition ss)
 newest-next boat edition ss s = newest-both boat edition ss (s ∷ []) ∙ by (newest boat edition ss) (eqb (s .boat) boat) (leb (s .edition) edition) refl
   where
-    above : (n : Newest) (c : Bool) → leb (s .edition) edition ≡ c → lastOf n (cond (leb (s .edition) edition) (s ∷ []) []) ≡ cond c (At s) n
+    above : (n : Newest) (c : Bool) → leb (s .edition) edition ≡ c → latest n (cond (leb (s .edition) edition) (s ∷ []) []) ≡ cond c (At s) n
     above n true e = simp e
     above n false e = simp e
 
-    by : (n : Newest) (b c : Bool) → leb (s .edition) edition ≡ c → lastOf n (notAbove edition (cond b (s ∷ []) [])) ≡ cond (b && c) (At s) n
+    by : (n : Newest) (b c : Bool) → leb (s .edition) edition ≡ c → latest n (notAbove edition (cond b (s ∷ []) [])) ≡ cond (b && c) (At s) n
     by n true c e = above n c e
     by n false c e = refl
 

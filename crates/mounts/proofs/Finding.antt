@@ -12,7 +12,7 @@ use Rattle.answers.specs.declared.Answer.the-variants as answer
 use Rattle.lists.proofs.Booleans.{no, and-left, and-right, both-true}
 use Rattle.mounts.specs.Claims.{NewestNotAbove, NoSheet, AskRefusal}
 use Rattle.mounts.specs.Editions.{newest, editionOf, nextEdition, highestEdition}
-use Rattle.mounts.specs.Mounts.{goodAt, firstBad, storedFault, found, unlessFault, asked}
+use Rattle.mounts.specs.Mounts.{goodAt, firstBad, storedFault, foundOrNone, unlessFault, asked}
 use Rattle.mounts.specs.Sheets.{sheetAt, sheetsIn}
 use Rattle.mounts.specs.declared.Asked.{Asked}
 use Rattle.mounts.specs.declared.Asked.the-variants.{Found, Refused}
@@ -133,11 +133,11 @@ abbrev refusedAt : Asked → ℕ
 refusedAt (Found t) = 0
 refusedAt (Refused n p) = p
 
-found-at : (n : Newest) (s : Sheet) → found n ≡ Found s → n ≡ At s
+found-at : (n : Newest) (s : Sheet) → foundOrNone n ≡ Found s → n ≡ At s
 found-at (At t) s e = ap At (ap (sheetFound s) e)
 found-at Nothing s e = absurd (no (ap isFound e))
 
-refused-nothing : (n : Newest) (p : ℕ) → found n ≡ Refused 19 p → n ≡ Nothing
+refused-nothing : (n : Newest) (p : ℕ) → foundOrNone n ≡ Refused 19 p → n ≡ Nothing
 refused-nothing (At t) p e = absurd (no (sym (ap isFound e)))
 refused-nothing Nothing p e = refl
 
@@ -146,7 +146,7 @@ pub asked-found : (bytes : List ℕ) (count boat edition : ℕ) (s : Sheet) → 
 unfolding asked
 asked-found bytes count boat edition s e = by (storedFault bytes count) refl e
   where
-    by : (f : Answer) → storedFault bytes count ≡ f → unlessFault f (found (newest boat edition (sheetsIn count bytes))) ≡ Found s
+    by : (f : Answer) → storedFault bytes count ≡ f → unlessFault f (foundOrNone (newest boat edition (sheetsIn count bytes))) ≡ Found s
         → (storedFault bytes count ≡ answer.Accepted) × (newest boat edition (sheetsIn count bytes) ≡ At s)
     by answer.Accepted f x = (f, found-at (newest boat edition (sheetsIn count bytes)) s x)
     by (answer.Refused n p) f x = absurd (no (ap isFound x))
@@ -204,7 +204,7 @@ none-found bytes count boat edition p e = by (storedFault bytes count) refl e
         let other = eqb-false edition 0 z in
         inl (nothing-none bytes boat edition count (omega (arith, other)) (stored-sound bytes count f .good) n)
 
-    by : (f : Answer) → storedFault bytes count ≡ f → unlessFault f (found (newest boat edition (sheetsIn count bytes))) ≡ Refused 19 p
+    by : (f : Answer) → storedFault bytes count ≡ f → unlessFault f (foundOrNone (newest boat edition (sheetsIn count bytes))) ≡ Refused 19 p
         → (storedFault bytes count ≡ answer.Accepted) × (NoSheet bytes count boat ⊎ (edition ≡ 0))
     by answer.Accepted f x = (f, asked-zero f (refused-nothing (newest boat edition (sheetsIn count bytes)) p x) (eqb edition 0) refl)
     by (answer.Refused n q) f x = let number = ap refusedBy x in let only = fault-place bytes count n q f .0 in absurd (omega arith)
@@ -234,7 +234,7 @@ pub ask-numbers : (bytes : List ℕ) (count boat edition n p : ℕ) → asked by
 unfolding asked
 ask-numbers bytes count boat edition n p e = by (storedFault bytes count) (newest boat edition (sheetsIn count bytes)) refl e
   where
-    by : (f : Answer) (m : Newest) → storedFault bytes count ≡ f → unlessFault f (found m) ≡ Refused n p → AskRefusal count n p
+    by : (f : Answer) (m : Newest) → storedFault bytes count ≡ f → unlessFault f (foundOrNone m) ≡ Refused n p → AskRefusal count n p
     by (answer.Refused m q) w f x =
         inl (let o = fault-place bytes count m q f in (sym (ap refusedBy x) ∙ o .0, subst (λ (i : ℕ). i < count) (ap refusedAt x) (o .1)))
     by answer.Accepted (At t) f x = absurd (no (sym (ap isFound x)))

@@ -11,10 +11,10 @@ use Rattle.answers.specs.Answers.{rule, unless}
 use Rattle.answers.specs.declared.Answer.the-variants.{Accepted}
 use Rattle.lists.proofs.Booleans.{and-left, and-right}
 use Rattle.mounts.specs.Claims.{Rising}
-use Rattle.mounts.specs.Editions.{those, ofBoat, notAbove, lastOf, newest, editionOf, nextEdition, highestEdition}
+use Rattle.mounts.specs.Editions.{those, ofBoat, notAbove, latest, newest, editionOf, nextEdition, highestEdition}
 use Rattle.mounts.specs.Mounts.{goodAt, firstBad, storedFault}
 use Rattle.fields.specs.Parts.{valueAt}
-use Rattle.mounts.specs.Layout.{fillerPart}
+use Rattle.mounts.specs.Layout.{sheetFillerPart}
 use Rattle.mounts.specs.Sheets.{stored, sheetAt, sheetsIn}
 use Rattle.mounts.specs.declared.Newest.{Newest}
 use Rattle.mounts.specs.declared.Newest.the-variants.{At, Nothing}
@@ -27,16 +27,16 @@ rising-next n [] s r e = (omega arith, tt)
 rising-next n (t ∷ ss) s r e = (r .0, rising-next (suc n) ss s (r .1) (omega arith))
 
 -- The last of them, and the last of those not above an edition.
-last-rising : (n : ℕ) (ss : List Sheet) (m : Newest) → Rising n ss → editionOf m + 1 ≡ n → editionOf (lastOf m ss) + 1 ≡ n + length ss
+last-rising : (n : ℕ) (ss : List Sheet) (m : Newest) → Rising n ss → editionOf m + 1 ≡ n → editionOf (latest m ss) + 1 ≡ n + length ss
 last-rising n [] m r e = omega arith
 last-rising n (s ∷ ss) m r e = let first = r .0 in let rest = last-rising (suc n) ss (At s) (r .1) (omega arith) in omega arith
 
-last-most : (n e : ℕ) (ss : List Sheet) (m : Newest) → Rising n ss → editionOf m + 1 ≤ n → editionOf (lastOf m (notAbove e ss)) + 1 ≤ n + length ss
+last-most : (n e : ℕ) (ss : List Sheet) (m : Newest) → Rising n ss → editionOf m + 1 ≤ n → editionOf (latest m (notAbove e ss)) + 1 ≤ n + length ss
 last-most n e [] m r h = omega arith
 last-most n e (s ∷ ss) m r h = by (λ x l. last-most (suc n) e ss x (r .1) l) (leb (s .edition) e)
   where
-    by : ((x : Newest) → editionOf x + 1 ≤ suc n → editionOf (lastOf x (notAbove e ss)) + 1 ≤ suc n + length ss)
-        → (b : Bool) → editionOf (lastOf m (cond b (s ∷ notAbove e ss) (notAbove e ss))) + 1 ≤ n + suc (length ss)
+    by : ((x : Newest) → editionOf x + 1 ≤ suc n → editionOf (latest x (notAbove e ss)) + 1 ≤ suc n + length ss)
+        → (b : Bool) → editionOf (latest m (cond b (s ∷ notAbove e ss) (notAbove e ss))) + 1 ≤ n + suc (length ss)
     by rest true = let first = r .0 in let more = rest (At s) (omega arith) in omega arith
     by rest false = let more = rest m (omega arith) in omega arith
 
@@ -75,7 +75,7 @@ pub newest-below : (boat e : ℕ) (sheets : List Sheet) → e ≤ highestEdition
 unfolding newest
 newest-below boat e sheets h r =
     let some = last-most 1 e (kept boat sheets) Nothing r (omega arith) in
-    let same = ap (λ (z : List Sheet). editionOf (lastOf Nothing z)) (twice-above e highestEdition h (ofBoat boat sheets)) in
+    let same = ap (λ (z : List Sheet). editionOf (latest Nothing z)) (twice-above e highestEdition h (ofBoat boat sheets)) in
     let next = next-rising boat sheets r in
     omega arith
 
@@ -99,7 +99,7 @@ pub good-edition : (bytes : List ℕ) (k : ℕ) → goodAt bytes k ≡ true → 
 unfolding goodAt
 good-edition bytes k e =
     let s = sheetAt bytes k in
-    let zero-filler = eqb (valueAt fillerPart (stored bytes k)) 0 in
+    let zero-filler = eqb (valueAt sheetFillerPart (stored bytes k)) 0 in
     let follows = eqb (s .edition) (nextEdition (s .boat) (sheetsIn k bytes)) in
     eqb-true (s .edition) (nextEdition (s .boat) (sheetsIn k bytes)) (and-right zero-filler follows (and-right (leb (s .side) 1) (zero-filler && follows) e))
 

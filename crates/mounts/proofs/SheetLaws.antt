@@ -13,32 +13,32 @@ use Rattle.fields.specs.Parts.{Part, part, valueAt}
 use Rattle.fields.proofs.Elements.{elements-all}
 use Rattle.fields.proofs.LittleEndian.{bytes-back, number-back}
 use Rattle.fields.proofs.PartLaws.{value-there, part-bytes, number-lt}
-use Rattle.mounts.specs.Layout.{sheetLength, boatPart, editionPart, sidePart, fillerPart}
-use Rattle.mounts.specs.Sheets.{sheet, recordOf, sheetIn, stored, sheetAt}
+use Rattle.mounts.specs.Layout.{sheetLength, boatPart, editionPart, sidePart, sheetFillerPart}
+use Rattle.mounts.specs.Sheets.{sheet, sheetRecord, sheetIn, stored, sheetAt}
 use Rattle.mounts.specs.declared.Sheet.{Sheet}
 
 pub same-sheet : {b e s b′ e′ s′ : ℕ} → b ≡ b′ → e ≡ e′ → s ≡ s′ → sheet b e s ≡ sheet b′ e′ s′
 same-sheet eb ee es = cc
 
-pub record-length : (s : Sheet) → length (recordOf s) ≡ 16
-unfolding recordOf
+pub record-length : (s : Sheet) → length (sheetRecord s) ≡ 16
+unfolding sheetRecord
 record-length s = refl
 
 -- A sheet of 32-bit numbers and a byte comes back from its record.
-pub sheet-back : (s : Sheet) → s .boat < 2 ^ 32 → s .edition < 2 ^ 32 → s .side < 256 → sheetIn (recordOf s) ≡ s
-unfolding recordOf
+pub sheet-back : (s : Sheet) → s .boat < 2 ^ 32 → s .edition < 2 ^ 32 → s .side < 256 → sheetIn (sheetRecord s) ≡ s
+unfolding sheetRecord
 sheet-back s hb he hs = same-sheet (number-back 4 (s .boat) hb) (number-back 4 (s .edition) he) (number-back 1 (s .side) hs)
 
-pub filler-zero : (s : Sheet) → valueAt fillerPart (recordOf s) ≡ 0
-unfolding recordOf
+pub filler-zero : (s : Sheet) → valueAt sheetFillerPart (sheetRecord s) ≡ 0
+unfolding sheetRecord
 filler-zero s = refl
 
 -- The bytes of a record, one by one.
 pub record-listed : (s : Sheet) (bs es : List ℕ) → bs ≡ bytesOf 4 (s .boat) → es ≡ bytesOf 4 (s .edition) → s .side < 256
     → _≡_ {A = List ℕ}
     (getD bs 0 0 ∷ getD bs 1 0 ∷ getD bs 2 0 ∷ getD bs 3 0 ∷ getD es 0 0 ∷ getD es 1 0 ∷ getD es 2 0 ∷ getD es 3 0 ∷ s .side ∷ 0 ∷ 0 ∷ 0 ∷ 0 ∷ 0 ∷ 0 ∷ 0 ∷ [])
-    (recordOf s)
-unfolding recordOf
+    (sheetRecord s)
+unfolding sheetRecord
 record-listed s bs es eb ee h = let side : s .side % 256 ≡ s .side = omega arith in rw (eb, ee, side) (refl)
 
 -- Where the parts of record k stand in all of the bytes.
@@ -47,10 +47,10 @@ pub sheet-there : (bytes : List ℕ) (k : ℕ)
     ≡ sheet (numberIn (elements bytes (16 * k + 0) 4)) (numberIn (elements bytes (16 * k + 4) 4)) (numberIn (elements bytes (16 * k + 8) 1))
 sheet-there bytes k = same-sheet (value-there 16 bytes k boatPart (omega arith)) (value-there 16 bytes k editionPart (omega arith)) (value-there 16 bytes k sidePart (omega arith))
 
-pub filler-there : (bytes : List ℕ) (k : ℕ) → valueAt fillerPart (stored bytes k) ≡ numberIn (elements bytes (16 * k + 9) 7)
-filler-there bytes k = value-there 16 bytes k fillerPart (omega arith)
+pub filler-there : (bytes : List ℕ) (k : ℕ) → valueAt sheetFillerPart (stored bytes k) ≡ numberIn (elements bytes (16 * k + 9) 7)
+filler-there bytes k = value-there 16 bytes k sheetFillerPart (omega arith)
 
--- The filler is zero if its first three bytes are, and the number in its last four.
+-- The filler is zero if its first three bytes are, and the number in its last fourSheets.
 zero-each : (b0 b1 b2 n : ℕ) → (eqb b0 0 && eqb b1 0 && eqb b2 0 && eqb n 0) ≡ eqb (b0 + 256 * (b1 + 256 * (b2 + 256 * n))) 0
 zero-each b0 b1 b2 n = same (eqb b0 0 && eqb b1 0 && eqb b2 0 && eqb n 0) (eqb (b0 + 256 * (b1 + 256 * (b2 + 256 * n))) 0) there back
   where
@@ -71,7 +71,7 @@ zero-each b0 b1 b2 n = same (eqb b0 0 && eqb b1 0 && eqb b2 0 && eqb n 0) (eqb (
 
 pub zero-filler : (bytes : List ℕ) (k n : ℕ) → n ≡ numberIn (elements bytes (16 * k + 12) 4)
     → (eqb (getD bytes (16 * k + 9) 0) 0 && eqb (getD bytes (16 * k + 10) 0) 0 && eqb (getD bytes (16 * k + 11) 0) 0 && eqb n 0)
-    ≡ eqb (valueAt fillerPart (stored bytes k)) 0
+    ≡ eqb (valueAt sheetFillerPart (stored bytes k)) 0
 zero-filler bytes k n e =
     let at = 16 * k in
     let e1 : at + 10 ≡ suc (at + 9) = omega arith in
@@ -88,9 +88,9 @@ same-bytes : {b0 b1 b2 b3 b4 b5 b6 b7 b8 s z9 z10 z11 z12 z13 z14 z15 : ℕ} →
 same-bytes es e9 e10 e11 e12 e13 e14 e15 = cc
 
 -- A record with zero filler comes back from its sheet, all its bytes.
-pub record-again : (r : List ℕ) → Bytes r → length r ≡ 16 → valueAt fillerPart r ≡ 0 → recordOf (sheetIn r) ≡ r
+pub record-again : (r : List ℕ) → Bytes r → length r ≡ 16 → valueAt sheetFillerPart r ≡ 0 → sheetRecord (sheetIn r) ≡ r
 record-again r h n z =
-    let four : (i : ℕ) → elements r i 4 ≡ bytesOf 4 (numberIn (elements r i 4)) = λ i. sym (bytes-back (elements r i 4) (part-bytes r h i 4)) in
+    let fourSheets : (i : ℕ) → elements r i 4 ≡ bytesOf 4 (numberIn (elements r i 4)) = λ i. sym (bytes-back (elements r i 4) (part-bytes r h i 4)) in
     let one : numberIn (elements r 8 1) ≡ getD r 8 0 = omega arith in
     let side = number-lt (elements r 8 1) (part-bytes r h 8 1) in
     let e9 : getD r 9 0 ≡ 0 = omega (arith, z) in
@@ -100,6 +100,6 @@ record-again r h n z =
     let e13 : getD r 13 0 ≡ 0 = omega (arith, z) in
     let e14 : getD r 14 0 ≡ 0 = omega (arith, z) in
     let e15 : getD r 15 0 ≡ 0 = omega (arith, z) in
-    sym (record-listed (sheetIn r) (elements r 0 4) (elements r 4 4) (four 0) (four 4) side)
+    sym (record-listed (sheetIn r) (elements r 0 4) (elements r 4 4) (fourSheets 0) (fourSheets 4) side)
     ∙ same-bytes one e9 e10 e11 e12 e13 e14 e15
     ∙ elements-all r 16 n

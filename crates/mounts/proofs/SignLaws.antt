@@ -24,6 +24,14 @@ abbrev vectorOr : Shift → Turned → Shift
 vectorOr d (Vector v) = v
 vectorOr d (Refused n p) = d
 
+abbrev numberOr : Turned → ℕ
+numberOr (Vector v) = 0
+numberOr (Refused n p) = n
+
+abbrev placeOr : Turned → ℕ
+placeOr (Vector v) = 0
+placeOr (Refused n p) = p
+
 -- The sixteen bits of -32768, and of no other number, are 32768.
 pub lowest-refused : (x y : ℤ) → SFits w16 x → ofZ w16 x ≡ 32768 → onPort x y ≡ Refused 23 0
 lowest-refused (pos n) y f e = absurd (omega (arith, f .sfits))
@@ -98,3 +106,21 @@ others-turned side s h other = by (eqb side 0) (s .x) refl
     by true x e = (s, simp (le-leb side 1 h))
     by false (pos n) e = (shift (negℤ (pos n)) (s .y), simp (le-leb side 1 h, e))
     by false (negsuc n) e = (shift (negℤ (negsuc n)) (s .y), simp (le-leb side 1 h, e, ne-eqb n 32767 (λ t. other (e ∙ ap negsuc t))))
+
+-- The numbers and places of refusals.
+pub turn-numbers : (side : ℕ) (s : Shift) (n p : ℕ) → vectorOn side s ≡ Refused n p → ((n ≡ 22) ⊎ (n ≡ 23)) × (p ≡ 0)
+unfolding vectorOn
+turn-numbers side s n p e = by (leb side port) (eqb side starboard) (s .x) e
+  where
+    at : (m : ℕ) → _≡_ {A = Turned} (Refused m 0) (Refused n p) → (n ≡ m) × (p ≡ 0)
+    at m t = (sym (ap numberOr t), sym (ap placeOr t))
+
+    by : (known other : Bool) (x : ℤ) → cond known (cond other (Vector s) (onPort x (s .y))) (Refused 22 0) ≡ Refused n p → ((n ≡ 22) ⊎ (n ≡ 23)) × (p ≡ 0)
+    by false other x t = let y = at 22 t in (inl (y .0), y .1)
+    by true true x t = absurd (no (sym (ap isVector t)))
+    by true false (pos m) t = absurd (no (sym (ap isVector t)))
+    by true false (negsuc m) t = held (eqb m 32767) t
+      where
+        held : (b : Bool) → cond b (Refused 23 0) (Vector (shift (negℤ (negsuc m)) (s .y))) ≡ Refused n p → ((n ≡ 22) ⊎ (n ≡ 23)) × (p ≡ 0)
+        held true u = let y = at 23 u in (inr (y .0), y .1)
+        held false u = absurd (no (sym (ap isVector u)))

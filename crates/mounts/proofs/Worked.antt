@@ -2,13 +2,13 @@
 use mathlib.Core.Path.{_≡_, refl}
 use mathlib.Core.List.{[], _∷_}
 use Rattle.mounts.specs.Editions.{newest, nextEdition}
-use Rattle.mounts.specs.Examples.{askExamples, addExamples, turnExamples, given, due}
+use Rattle.mounts.specs.Examples.{askExamples, addExamples, turnExamples, givenAnswers, dueAnswers}
 use Rattle.mounts.specs.Mounts.{goodAt, storedFault, asked, addAnswer, added, bytesAfter}
-use Rattle.mounts.specs.Sheets.{sheet, recordOf}
+use Rattle.mounts.specs.Sheets.{sheet, sheetRecord}
 use Rattle.mounts.specs.Signs.{vectorOn}
 
-worked : given ≡ due
-unfolding given due askExamples addExamples turnExamples asked added bytesAfter addAnswer storedFault goodAt nextEdition newest recordOf vectorOn
+worked : givenAnswers ≡ dueAnswers
+unfolding givenAnswers dueAnswers askExamples addExamples turnExamples asked added bytesAfter addAnswer storedFault goodAt nextEdition newest sheetRecord vectorOn
 worked = refl
 
 -- 32 bits do not hold what follows 4294967295.

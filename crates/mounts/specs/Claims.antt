@@ -10,7 +10,7 @@ use lib.ListN.{length, take, drop}
 use Rattle.answers.specs.declared.Answer.the-variants as answer
 use Rattle.mounts.specs.Layout.{sheetLength}
 use Rattle.mounts.specs.Mounts.{goodAt, storedFault, asked, addAnswer, added, bytesAfter}
-use Rattle.mounts.specs.Sheets.{sheet, recordOf, sheetAt}
+use Rattle.mounts.specs.Sheets.{sheet, sheetRecord, sheetAt}
 use Rattle.mounts.specs.declared.Asked.the-variants.{Found}
 use Rattle.mounts.specs.declared.Sheet.{Sheet}
 
@@ -42,7 +42,7 @@ NoSheet bytes count boat = (j : ℕ) → j < count → sheetAt bytes j .boat ≡
 pub record AddLeaves (before : List ℕ) (count : ℕ) (s : Sheet) (after : List ℕ) : Type 0 where
   pub same-length : length after ≡ length before
   pub before-it : take (sheetLength * count) after ≡ take (sheetLength * count) before
-  pub the-record : take sheetLength (drop (sheetLength * count) after) ≡ recordOf s
+  pub the-record : take sheetLength (drop (sheetLength * count) after) ≡ sheetRecord s
   pub beyond-it : drop (sheetLength * suc count) after ≡ drop (sheetLength * suc count) before
 
 -- Lent bytes and the number of records in them, as they are handed on.

@@ -22,13 +22,13 @@ abbrev pub notAbove : ℕ → List Sheet → List Sheet
 notAbove edition sheets = those (λ s. leb (s .edition) edition) sheets
 
 -- The last of some sheets.
-abbrev pub lastOf : Newest → List Sheet → Newest
-lastOf before [] = before
-lastOf before (s ∷ ss) = lastOf (At s) ss
+abbrev pub latest : Newest → List Sheet → Newest
+latest before [] = before
+latest before (s ∷ ss) = latest (At s) ss
 
 -- "that boat's newest sheet not above it"
 unfoldable pub newest : ℕ → ℕ → List Sheet → Newest
-newest boat edition sheets = lastOf Nothing (notAbove edition (ofBoat boat sheets))
+newest boat edition sheets = latest Nothing (notAbove edition (ofBoat boat sheets))
 
 -- "none follows 4294967295"
 abbrev pub highestEdition : ℕ

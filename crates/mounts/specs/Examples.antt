@@ -23,8 +23,8 @@ abbrev pub wide : List ℕ
 wide = 0x44 ∷ 0x33 ∷ 0x22 ∷ 0x11 ∷ 1 ∷ 0 ∷ 0 ∷ 0 ∷ 1 ∷ 0 ∷ 0 ∷ 0 ∷ 0 ∷ 0 ∷ 0 ∷ 0 ∷ []
 
 -- Four sheets: boat 7 on port in its first edition and on starboard in its second, with other boats between.
-abbrev pub four : List ℕ
-four = line 7 1 1 ++ (line 9 1 0 ++ (line 7 2 0 ++ wide))
+abbrev pub fourSheets : List ℕ
+fourSheets = line 7 1 1 ++ (line 9 1 0 ++ (line 7 2 0 ++ wide))
 
 pub record AskExample : Type 0 where
   pub bytes : List ℕ
@@ -38,27 +38,27 @@ ask bytes count boat edition due = record { bytes = bytes; count = count; boat =
 
 unfoldable pub askExamples : List AskExample
 askExamples =
-    ask four 4 7 1 (Found (sheet 7 1 1))
-    ∷ ask four 4 7 2 (Found (sheet 7 2 0))
-    ∷ ask four 4 7 4294967295 (Found (sheet 7 2 0))
-    ∷ ask four 4 0x11223344 1 (Found (sheet 0x11223344 1 1))
-    ∷ ask four 4 7 0 (Refused 19 0)
-    ∷ ask four 4 8 1 (Refused 19 0)
+    ask fourSheets 4 7 1 (Found (sheet 7 1 1))
+    ∷ ask fourSheets 4 7 2 (Found (sheet 7 2 0))
+    ∷ ask fourSheets 4 7 4294967295 (Found (sheet 7 2 0))
+    ∷ ask fourSheets 4 0x11223344 1 (Found (sheet 0x11223344 1 1))
+    ∷ ask fourSheets 4 7 0 (Refused 19 0)
+    ∷ ask fourSheets 4 8 1 (Refused 19 0)
     ∷ ask [] 0 7 1 (Refused 19 0)
-    ∷ ask four 5 7 1 (Refused 20 4)
-    ∷ ask (take 63 four) 4 7 1 (Refused 20 3)
-    ∷ ask (set (take 63 four) 8 2) 4 7 1 (Refused 20 3)
-    ∷ ask (set four 40 2) 4 7 1 (Refused 20 2)
-    ∷ ask (set four 9 1) 4 7 1 (Refused 20 0)
-    ∷ ask (set four 63 128) 4 9 1 (Refused 20 3)
-    ∷ ask (set four 36 3) 4 9 1 (Refused 20 2)
-    ∷ ask (set four 36 1) 4 9 1 (Refused 20 2)
-    ∷ ask (set four 20 0) 4 9 1 (Refused 20 1)
-    ∷ ask (set (set four 40 2) 9 1) 4 9 1 (Refused 20 0)
-    ∷ ask (set four 40 2) 2 7 1 (Found (sheet 7 1 1))
+    ∷ ask fourSheets 5 7 1 (Refused 20 4)
+    ∷ ask (take 63 fourSheets) 4 7 1 (Refused 20 3)
+    ∷ ask (set (take 63 fourSheets) 8 2) 4 7 1 (Refused 20 3)
+    ∷ ask (set fourSheets 40 2) 4 7 1 (Refused 20 2)
+    ∷ ask (set fourSheets 9 1) 4 7 1 (Refused 20 0)
+    ∷ ask (set fourSheets 63 128) 4 9 1 (Refused 20 3)
+    ∷ ask (set fourSheets 36 3) 4 9 1 (Refused 20 2)
+    ∷ ask (set fourSheets 36 1) 4 9 1 (Refused 20 2)
+    ∷ ask (set fourSheets 20 0) 4 9 1 (Refused 20 1)
+    ∷ ask (set (set fourSheets 40 2) 9 1) 4 9 1 (Refused 20 0)
+    ∷ ask (set fourSheets 40 2) 2 7 1 (Found (sheet 7 1 1))
     ∷ []
 
--- Adding: so many bytes of 0xAA are lent behind the four sheets; what is answered, how many sheets there are then, and the bytes.
+-- Adding: so many bytes of 0xAA are lent behind the fourSheets sheets; what is answered, how many sheets there are then, and the bytes.
 pub record AddExample : Type 0 where
   pub bytes : List ℕ
   pub count : ℕ
@@ -69,7 +69,7 @@ pub record AddExample : Type 0 where
   pub left : List ℕ
 
 abbrev pub behind : ℕ → List ℕ
-behind n = four ++ replicate n 0xAA
+behind n = fourSheets ++ replicate n 0xAA
 
 abbrev pub done : ℕ → ℕ → ℕ → ℕ → List ℕ → AddExample
 done n boat edition side left =
@@ -82,9 +82,9 @@ refused bytes count boat edition side n p =
 -- "The checks come as 20, 19, 22, 21, 14."
 unfoldable pub addExamples : List AddExample
 addExamples =
-    done 20 7 3 1 (four ++ (line 7 3 1 ++ replicate 4 0xAA))
-    ∷ done 16 8 1 0 (four ++ line 8 1 0)
-    ∷ done 33 0x11223344 2 0 (four ++ (set (set wide 4 2) 8 0 ++ replicate 17 0xAA))
+    done 20 7 3 1 (fourSheets ++ (line 7 3 1 ++ replicate 4 0xAA))
+    ∷ done 16 8 1 0 (fourSheets ++ line 8 1 0)
+    ∷ done 33 0x11223344 2 0 (fourSheets ++ (set (set wide 4 2) 8 0 ++ replicate 17 0xAA))
     ∷ refused (behind 16) 4 7 3 2 22 0
     ∷ refused (behind 16) 4 7 3 256 22 0
     ∷ refused (behind 16) 4 7 2 1 21 0
@@ -92,11 +92,11 @@ addExamples =
     ∷ refused (behind 16) 4 7 0 1 21 0
     ∷ refused (behind 16) 4 8 2 0 21 0
     ∷ refused (behind 15) 4 7 3 1 14 0
-    ∷ refused four 4 8 1 0 14 0
-    ∷ refused four 4 7 9 2 22 0
-    ∷ refused four 4 7 9 1 21 0
+    ∷ refused fourSheets 4 8 1 0 14 0
+    ∷ refused fourSheets 4 7 9 2 22 0
+    ∷ refused fourSheets 4 7 9 1 21 0
     ∷ refused (set (behind 16) 40 2) 4 7 9 2 20 2
-    ∷ refused four 5 7 9 2 20 4
+    ∷ refused fourSheets 5 7 9 2 20 4
     ∷ refused (behind 16) 5 7 3 1 20 4
     ∷ []
 
@@ -134,8 +134,8 @@ pub record Answers : Type 0 where
   pub leaving : List (List ℕ)
   pub turning : List Turned
 
-unfoldable pub given : Answers
-given =
+unfoldable pub givenAnswers : Answers
+givenAnswers =
     record {
       asking = map (λ x. asked (x .bytes) (x .count) (x .boat) (x .edition)) askExamples;
       adding = map (λ x. added (x .bytes) (x .count) (sheet (x .boat) (x .edition) (x .side))) addExamples;
@@ -143,8 +143,8 @@ given =
       turning = map (λ x. vectorOn (x .side) (shift (x .x) (x .y))) turnExamples;
     }
 
-unfoldable pub due : Answers
-due =
+unfoldable pub dueAnswers : Answers
+dueAnswers =
     record {
       asking = map (λ x. x .due) askExamples;
       adding = map (λ x. x .due) addExamples;

@@ -17,8 +17,8 @@ editionPart = part 4 4
 abbrev pub sidePart : Part
 sidePart = part 8 1
 
-abbrev pub fillerPart : Part
-fillerPart = part 9 7
+abbrev pub sheetFillerPart : Part
+sheetFillerPart = part 9 7
 
 -- The two sides.
 abbrev pub starboard : ℕ

@@ -10,8 +10,8 @@ use Rattle.answers.specs.declared.Answer.{Answer}
 use Rattle.answers.specs.declared.Answer.the-variants as answer
 use Rattle.fields.specs.Parts.{valueAt}
 use Rattle.mounts.specs.Editions.{newest, nextEdition}
-use Rattle.mounts.specs.Layout.{sheetLength, fillerPart, port}
-use Rattle.mounts.specs.Sheets.{sheet, recordOf, sheetIn, stored, sheetsIn, capacity}
+use Rattle.mounts.specs.Layout.{sheetLength, sheetFillerPart, port}
+use Rattle.mounts.specs.Sheets.{sheet, sheetRecord, sheetIn, stored, sheetsIn, capacity}
 use Rattle.mounts.specs.declared.Added.{Added}
 use Rattle.mounts.specs.declared.Asked.{Asked}
 use Rattle.mounts.specs.declared.Asked.the-variants.{Found, Refused}
@@ -22,7 +22,7 @@ use Rattle.mounts.specs.declared.Sheet.{Sheet}
 -- A record behind these sheets is good: "(side above 1, non-zero filler, or not its boat's next edition)" makes it bad.
 abbrev pub goodAfter : List Sheet → List ℕ → Bool
 goodAfter before r =
-    leb (sheetIn r .side) port && (eqb (valueAt fillerPart r) 0 && eqb (sheetIn r .edition) (nextEdition (sheetIn r .boat) before))
+    leb (sheetIn r .side) port && (eqb (valueAt sheetFillerPart r) 0 && eqb (sheetIn r .edition) (nextEdition (sheetIn r .boat) before))
 
 -- Record k is good.
 unfoldable pub goodAt : List ℕ → ℕ → Bool
@@ -38,16 +38,16 @@ unfoldable pub storedFault : List ℕ → ℕ → Answer
 storedFault bytes count = cond (ltb (capacity bytes) count) (answer.Refused 20 (capacity bytes)) (firstBad count bytes)
 
 -- "Asking for boat and edition gives that boat's newest sheet not above it, or 19 if none."
-abbrev pub found : Newest → Asked
-found (At s) = Found s
-found Nothing = Refused 19 0
+abbrev pub foundOrNone : Newest → Asked
+foundOrNone (At s) = Found s
+foundOrNone Nothing = Refused 19 0
 
 abbrev pub unlessFault : Answer → Asked → Asked
 unlessFault answer.Accepted a = a
 unlessFault (answer.Refused n p) a = Refused n p
 
 unfoldable pub asked : List ℕ → ℕ → ℕ → ℕ → Asked
-asked bytes count boat edition = unlessFault (storedFault bytes count) (found (newest boat edition (sheetsIn count bytes)))
+asked bytes count boat edition = unlessFault (storedFault bytes count) (foundOrNone (newest boat edition (sheetsIn count bytes)))
 
 -- "adding another edition than the next (none follows 4294967295) gives 21, a side above 1 gives 22, no room gives 14, here at 0. The checks come as
 -- 20, 19, 22, 21, 14."
@@ -67,7 +67,7 @@ addedCount answer.Accepted count = suc count
 addedCount (answer.Refused n p) count = count
 
 abbrev pub addedBytes : Answer → List ℕ → ℕ → Sheet → List ℕ
-addedBytes answer.Accepted bytes count s = sets bytes (sheetLength * count) (recordOf s)
+addedBytes answer.Accepted bytes count s = sets bytes (sheetLength * count) (sheetRecord s)
 addedBytes (answer.Refused n p) bytes count s = bytes
 
 unfoldable pub added : List ℕ → ℕ → Sheet → Added

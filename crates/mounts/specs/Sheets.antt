@@ -15,8 +15,8 @@ abbrev pub sheet : ℕ → ℕ → ℕ → Sheet
 sheet boat edition side = record { boat = boat; edition = edition; side = side }
 
 -- The record of a sheet.
-unfoldable pub recordOf : Sheet → List ℕ
-recordOf s = laid sheetLength (entry boatPart (s .boat) ∷ entry editionPart (s .edition) ∷ entry sidePart (s .side) ∷ [])
+unfoldable pub sheetRecord : Sheet → List ℕ
+sheetRecord s = laid sheetLength (entry boatPart (s .boat) ∷ entry editionPart (s .edition) ∷ entry sidePart (s .side) ∷ [])
 
 -- The sheet of a record.
 abbrev pub sheetIn : List ℕ → Sheet

@@ -10,7 +10,7 @@ use lib.ListN.{length, getD, set, replicate, length-set, getD-replicate}
 use lib.Seq.{getD-set-same, getD-set-other}
 use Rattle.fields.specs.Parts.{valueAt}
 use Rattle.mounts.specs.Editions.{newest, editionOf, nextEdition}
-use Rattle.mounts.specs.Layout.{fillerPart}
+use Rattle.mounts.specs.Layout.{sheetFillerPart}
 use Rattle.mounts.specs.Mounts.{goodAt}
 use Rattle.mounts.specs.Sheets.{stored, sheetAt, sheetsIn}
 use Rattle.mounts.specs.declared.Newest.{Newest}
@@ -81,7 +81,7 @@ ends-newest bytes k ends e boat edition =
 -- The test of the code says whether record k is good.
 pub good-here : (bytes : List ℕ) (k : ℕ) (ends : List ℕ) (s : Sheet) (filler : Bool) (m : Newest) (next : ℕ) → Ends bytes k ends
     → s ≡ sheetAt bytes k
-    → filler ≡ eqb (valueAt fillerPart (stored bytes k)) 0
+    → filler ≡ eqb (valueAt sheetFillerPart (stored bytes k)) 0
     → m ≡ newest (s .boat) 4294967295 (sheetsIn (getD ends (s .boat % 509) 0) bytes)
     → next ≡ editionOf m + 1
     → (leb (s .side) 1 && (filler && eqb (s .edition) next)) ≡ goodAt bytes k
@@ -90,5 +90,5 @@ good-here bytes k ends s filler m next e es ef em en =
     let newer = em ∙ ends-newest bytes k ends e (s .boat) 4294967295 in
     let follows : next ≡ nextEdition (s .boat) (sheetsIn k bytes) = en ∙ ap (λ (x : Newest). editionOf x + 1) newer in
     ap (λ (x : Bool). leb (s .side) 1 && (x && eqb (s .edition) next)) ef
-    ∙ ap (λ (x : ℕ). leb (s .side) 1 && (eqb (valueAt fillerPart (stored bytes k)) 0 && eqb (s .edition) x)) follows
-    ∙ ap (λ (x : Sheet). leb (x .side) 1 && (eqb (valueAt fillerPart (stored bytes k)) 0 && eqb (x .edition) (nextEdition (x .boat) (sheetsIn k bytes)))) es
+    ∙ ap (λ (x : ℕ). leb (s .side) 1 && (eqb (valueAt sheetFillerPart (stored bytes k)) 0 && eqb (s .edition) x)) follows
+    ∙ ap (λ (x : Sheet). leb (x .side) 1 && (eqb (valueAt sheetFillerPart (stored bytes k)) 0 && eqb (x .edition) (nextEdition (x .boat) (sheetsIn k bytes)))) es

@@ -8,7 +8,7 @@ ghost use Prim.Native.Nat.{_+_, _*_, _≤_};
 ghost use lib.ListN.{length};
 ghost use Rattle.answers.specs.declared.Answer.the-variants.{Accepted};
 ghost use Rattle.mounts.specs.Editions.{newest, editionOf, nextEdition};
-ghost use Rattle.mounts.specs.Mounts.{firstBad, storedFault, found, asked};
+ghost use Rattle.mounts.specs.Mounts.{firstBad, storedFault, foundOrNone, asked};
 ghost use Rattle.mounts.specs.Sheets.{sheetsIn};
 
 // A boat's sheets are looked for by the remainder of its number: for each remainder it is known how many records reach to the last that
@@ -94,8 +94,8 @@ pub(crate) fn judge(sheets: &[u8], count: u64, boat: u32, edition: u32) -> Judge
     judge_records(sheets, count as usize, boat, edition)
 }
 
-fn found(newest: Newest) -> Asked
-    ensures { λ r. ⌜ r ≡ found newest ⌝ }
+fn found_or_none(newest: Newest) -> Asked
+    ensures { λ r. ⌜ r ≡ foundOrNone newest ⌝ }
 {
     match newest {
         Newest::At(sheet) => Asked::Found(sheet),
@@ -113,5 +113,5 @@ pub fn ask(sheets: &[u8], count: u64, boat: u32, edition: u32) -> Asked
         return Asked::Refused(number, place);
     }
     let newest = judged.newest;
-    found(newest)
+    found_or_none(newest)
 }

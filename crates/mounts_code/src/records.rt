@@ -7,10 +7,10 @@ ghost use lib.Dec.{eqb};
 ghost use lib.ListN.{length, drop};
 ghost use Rattle.fields.specs.Bytes.{numberIn, elements};
 ghost use Rattle.fields.specs.Parts.{valueAt};
-ghost use Rattle.mounts.specs.Layout.{fillerPart};
-ghost use Rattle.mounts.specs.Sheets.{recordOf, stored, sheetAt, sheetOf};
+ghost use Rattle.mounts.specs.Layout.{sheetFillerPart};
+ghost use Rattle.mounts.specs.Sheets.{sheetRecord, stored, sheetAt, sheetOf};
 
-// The number in four bytes.
+// The number in fourSheets bytes.
 fn number_at(bytes: &[u8], at: usize) -> u32
     requires { ⌜ at + 4 ≤ length (now bytes) ⌝ }
     ensures { λ r. ⌜ r ≡ numberIn (elements (now (bytes .entry)) at 4) ⌝ }
@@ -34,7 +34,7 @@ pub(crate) fn sheet_at(sheets: &[u8], k: usize) -> Sheet
 // Whether the filler of record k is zero.
 pub(crate) fn zero_filler(sheets: &[u8], k: usize) -> bool
     requires { ⌜ 16 * (k + 1) ≤ length (now sheets) ⌝ }
-    ensures { λ r. ⌜ r ≡ eqb (valueAt fillerPart (stored (now (sheets .entry)) k)) 0 ⌝ }
+    ensures { λ r. ⌜ r ≡ eqb (valueAt sheetFillerPart (stored (now (sheets .entry)) k)) 0 ⌝ }
 {
     let at = 16 * k;
     let three = (sheets[at + 9] == 0) & (sheets[at + 10] == 0) & (sheets[at + 11] == 0);
@@ -58,7 +58,7 @@ pub fn sheet_in(record: &[u8]) -> Sheet
 // Writes the record of a sheet into the first 16 bytes of room.
 pub(crate) fn write_sheet(sheet: Sheet, room: &mut [u8])
     requires { ⌜ 16 ≤ length (now room) ⌝ }
-    ensures { λ _. ⌜ now (room .exit) ≡ recordOf sheet ++ drop 16 (now (room .entry)) ⌝ }
+    ensures { λ _. ⌜ now (room .exit) ≡ sheetRecord sheet ++ drop 16 (now (room .entry)) ⌝ }
 {
     let boat = fields_code::bytes32(sheet.boat);
     let edition = fields_code::bytes32(sheet.edition);

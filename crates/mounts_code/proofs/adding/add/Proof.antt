@@ -7,7 +7,7 @@ use mathlib.Core.List.{List, _++_}
 use lib.ListN.{length, drop, length-drop}
 use Rattle.answers.specs.declared.Answer.the-variants.{Accepted}
 use Rattle.lists.proofs.Slices.{part-back, part-rest}
-use Rattle.mounts.specs.Sheets.{sheet, recordOf}
+use Rattle.mounts.specs.Sheets.{sheet, sheetRecord}
 use Rattle.mounts.proofs.AddLaws.{add-addable, add-refused, add-accepted}
 use borrow.Author.Needs.{needs}
 use Rattle.mounts_code.proofs.adding.add.Statement.{statement}
@@ -81,7 +81,7 @@ returns-2 c =
     let a = j .before .before .before .args in
     let f = fits j accepted in
     let s = sheet (a .boat) (a .edition) (a .side) in
-    let done = add-accepted (now (a .sheets)) (a .count) s _ (sym (j .add-answer .ensures) ∙ accepted) (c .before .before .write-sheet .ensures ∙ ap (λ (z : List ℕ). recordOf s ++ drop 16 z) (part-rest (16 * a .count) (a .sheets .now))) in
+    let done = add-accepted (now (a .sheets)) (a .count) s _ (sym (j .add-answer .ensures) ∙ accepted) (c .before .before .write-sheet .ensures ∙ ap (λ (z : List ℕ). sheetRecord s ++ drop 16 z) (part-rest (16 * a .count) (a .sheets .now))) in
     (done .0, part-back (16 * a .count) (now (a .sheets)) _ (omega (arith, f .0)) ∙ done .1)
 
 pub add-spec : {M : Type 1} → statement M
