@@ -21,7 +21,7 @@ use Rattle.mounts.specs.declared.Newest.the-variants.{At, Nothing}
 use Rattle.mounts.specs.declared.Sheet.{Sheet}
 use Rattle.mounts.proofs.AddLaws.{stored-sound, fault-place}
 use Rattle.mounts.proofs.EditionLaws.{newest-next, newest-none, none-between}
-use Rattle.mounts.proofs.StoredLaws.{good-before}
+use Rattle.mounts.proofs.StoredLaws.{good-before, good-each}
 use Rattle.mounts.proofs.Rising.{kept-rises, newest-below, good-edition, good-both}
 
 -- whether record j is the boat's and not above the edition
@@ -239,3 +239,12 @@ ask-numbers bytes count boat edition n p e = by (storedFault bytes count) (newes
         inl (let o = fault-place bytes count m q f in (sym (ap refusedBy x) ∙ o .0, subst (λ (i : ℕ). i < count) (ap refusedAt x) (o .1)))
     by answer.Accepted (At t) f x = absurd (no (sym (ap isFound x)))
     by answer.Accepted Nothing f x = inr (sym (ap refusedBy x), sym (ap refusedAt x))
+
+-- A sheet that is found has one of the two sides.
+pub found-side : (bytes : List ℕ) (count boat edition : ℕ) (s : Sheet) → asked bytes count boat edition ≡ Found s → s .side ≤ 1
+unfolding goodAt
+found-side bytes count boat edition s e =
+    let f = asked-found bytes count boat edition s e in
+    let n = newest-stands bytes boat edition count s (f .1) in
+    let g = good-each bytes count (stored-sound bytes count (f .0) .good) (n .at) (n .counted) in
+    subst (λ (t : Sheet). t .side ≤ 1) (n .stored) (leb-true (sheetAt bytes (n .at) .side) 1 (and-left (leb (sheetAt bytes (n .at) .side) 1) _ g))
