@@ -27,6 +27,11 @@ static inline const char *hromulice_meaning(uint8_t number)
     case HROMULICE_ROOM_SHORT: return "the lent room is too small";
     case HROMULICE_RECORD: return "a record is not legal";
     case HROMULICE_NO_LENGTHS: return "fewer than 32 bytes came before the batch";
+    case HROMULICE_NO_SHEET: return "the boat has no sheet of that edition or an earlier one";
+    case HROMULICE_SHEETS: return "the stored sheets are damaged, or fewer than were counted";
+    case HROMULICE_EDITION: return "not the boat's next edition";
+    case HROMULICE_SIDE: return "a side is neither starboard (0) nor port (1)";
+    case HROMULICE_SHIFT: return "a shift of -32768 cannot be turned for port";
     case HROMULICE_TOO_MANY_WORDS: return "there are more than 4294967295 words";
     default: return "no answer has this number";
     }
@@ -42,6 +47,17 @@ static inline const char *hromulice_buffer_name(uint64_t place)
     case 2: return "forward reference";
     case 3: return "backward reference";
     default: return "no picture buffer has this number";
+    }
+}
+
+/* The side of a mount sheet. A number that is no side's gets a text that says so. */
+HROMULICE_MUST_USE
+static inline const char *hromulice_side_name(uint8_t side)
+{
+    switch (side) {
+    case 0: return "starboard";
+    case 1: return "port";
+    default: return "no side has this number";
     }
 }
 

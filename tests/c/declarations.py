@@ -6,9 +6,9 @@
 
 include/hromulice.h is compared with
 - the library itself: its exported functions and the layout of their structs, the words of a state, and its version (crates/*/src/*.rt);
-- the Rust crate: functions, structs, the words of a state, numbers, sizes of record and command, version (rust/hromulice);
+- the Rust crate: functions, structs, the words of a state, numbers, sizes of record, command and mount sheet, version (rust/hromulice);
 - the comparison with the second program, which declares the functions that it calls once more (rust/differential);
-- the example's size of a record (examples/c/check_batch.c).
+- the examples' sizes of a record (examples/c/check_batch.c) and of a mount sheet (examples/c/mounts.c).
 What this reads of a file it reads whole: a declaration in a form that it does not know is a difference.
 """
 import pathlib
@@ -22,24 +22,29 @@ CRATE = 'rust/hromulice/src/ffi.rs'
 COMPARISON = 'rust/differential/src/interface.rs'
 REASONS = 'rust/hromulice/src/reason.rs'
 SIZES = 'rust/hromulice/src/lib.rs'
+MOUNTS = 'rust/hromulice/src/mounts.rs'
 CARGO = 'rust/hromulice/Cargo.toml'
 EXAMPLE = 'examples/c/check_batch.c'
+MOUNTS_EXAMPLE = 'examples/c/mounts.c'
 EXPORTS = 'crates/hromulice/src'
 STRUCTS = ['crates/interface/src/lib.rt', 'crates/batch/src/lib.rt']
 MEMORY = 'crates/memory/src/lib.rt'
-FILES = [HEADER, CRATE, COMPARISON, REASONS, SIZES, CARGO, EXAMPLE, *STRUCTS, MEMORY]
+MOUNTING = f'{EXPORTS}/mounting.rt'
+FILES = [HEADER, CRATE, COMPARISON, REASONS, SIZES, MOUNTS, CARGO, EXAMPLE, MOUNTS_EXAMPLE, *STRUCTS, MEMORY]
 
 # C's types as Rust's. A struct of C is named by the word behind hromulice_.
-SCALARS = {'uint8_t': 'u8', 'uint16_t': 'u16', 'uint32_t': 'u32', 'uint64_t': 'u64', 'size_t': 'usize'}
+SCALARS = {'uint8_t': 'u8', 'uint16_t': 'u16', 'uint32_t': 'u32', 'uint64_t': 'u64', 'int16_t': 'i16', 'size_t': 'usize'}
 # The library's own names for C's structs.
-OWN_STRUCTS = {'Summary': 'report', 'Outcome': 'answer', 'Lengths': 'lengths'}
+OWN_STRUCTS = {'Summary': 'report', 'Outcome': 'answer', 'Lengths': 'lengths', 'Mount': 'mount', 'Mounts': 'mounts', 'MountShift': 'shift'}
 STATE = '[u64; STATE_WORDS]'
 # Names of the header's numbers in the Rust crate. 0 is no reason there, and 16 is given by programs alone.
 REASON_NAMES = {
     'WORDS_RUN_OUT': 'WordsRunOut', 'UNKNOWN_HEADER': 'UnknownHeader', 'OUT_OF_SEQUENCE': 'OutOfSequence', 'FIXED_BIT': 'FixedBit',
     'FIELD': 'FieldNotPermitted', 'POSITION': 'WrongPosition', 'FLAG': 'SliceOrGroupFlag', 'VECTOR_COPY': 'MissingVectorNotCopy',
     'VECTOR_RANGE': 'VectorBeyondFCode', 'VECTOR_OUTSIDE': 'OutsidePicture', 'SKIP': 'SkipRule', 'AFTER_END': 'WordAfterEnd',
-    'BUFFER_SHORT': 'BufferTooShort', 'ROOM_SHORT': 'RoomTooSmall', 'RECORD': 'RecordNotLegal', 'TOO_MANY_WORDS': 'TooManyWords',
+    'BUFFER_SHORT': 'BufferTooShort', 'ROOM_SHORT': 'RoomTooSmall', 'RECORD': 'RecordNotLegal', 'NO_SHEET': 'NoSheet',
+    'SHEETS': 'SheetsDamaged', 'EDITION': 'NotNextEdition', 'SIDE': 'SideNotPermitted', 'SHIFT': 'ShiftNotTurned',
+    'TOO_MANY_WORDS': 'TooManyWords',
 }
 APART = {'ACCEPTED': 0, 'NO_LENGTHS': 16}
 # What the header's preprocessor lines may define, each once, by compiler, and include.
@@ -201,13 +206,16 @@ def compare_numbers(header, root):
 
 
 def compare_sizes(header, root):
-    """The place of 14, which is the bytes of a record and the words of a command."""
+    """The place of 14, which is the bytes of a record and the words of a command; and the bytes of a mount sheet."""
     for name, function in ('RECORD_BYTES', 'read_command'), ('COMMAND_WORDS', 'write_command'):
         comment = only(rf'/\*((?:(?!\*/).)*)\*/\s*HROMULICE_MUST_USE\s+\w+ hromulice_{function}\(', header['text'], f'{HEADER}: {function}', re.S)
         place = only(r'14, with place (\d+)', spaced(comment.replace('\n *', ' ')), f'{HEADER}: the place of 14 by {function}')
         same(only(rf'^pub const {name}: usize = (\d+);$', (root / SIZES).read_text(), f'{SIZES}: {name}'), place, f'{SIZES}: {name}')
         if name == 'RECORD_BYTES':
             same(only(rf'^#define {name} (\d+)$', (root / EXAMPLE).read_text(), f'{EXAMPLE}: {name}'), place, f'{EXAMPLE}: {name}')
+    size = only(r'^/\* Mount sheets\. A sheet has (\d+) bytes,', header['text'], f'{HEADER}: the bytes of a mount sheet')
+    for path, pattern in (MOUNTS, r'^pub const SHEET_BYTES: usize = (\d+);$'), (MOUNTS_EXAMPLE, r'^#define SHEET_BYTES (\d+)$'):
+        same(only(pattern, (root / path).read_text(), f'{path}: SHEET_BYTES'), size, f'{path}: SHEET_BYTES')
 
 
 def compare_versions(header, root):
@@ -241,7 +249,7 @@ def compare_library(header, root):
     functions = {}
     for file in sorted((root / EXPORTS).glob('**/*.rt')):
         text = without_comments(file.read_text())
-        found = re.findall(r'^#\[no_mangle\]\npub extern "C" fn (\w+)\((.*)\)(?: -> (\w+))?$', text, re.M)
+        found = re.findall(r'^#\[no_mangle\]\npub extern "C" fn (\w+)\(([^)]*)\)(?: -> (\w+))?$', text, re.M)
         need(len(found) == text.count('extern "C"') == text.count('no_mangle'), f'{file.name}: an exported function is not read')
         for name, arguments, answer in found:
             given = re.findall(r'(\w+): ([^,]+)', arguments)
@@ -294,6 +302,14 @@ WRONG = [
     ('another version', HEADER, r'(VERSION_MINOR) (\d+)', r'\1 2\2'),
     ('another text of the version', HEADER, r'VERSION_TEXT "', 'VERSION_TEXT "1'),
     ('another place of 14', HEADER, r'with place 24', 'with place 32'),
+    ('another size of a sheet', HEADER, r'A sheet has 16 bytes', 'A sheet has 24 bytes'),
+    ('x and y exchanged', HEADER, r'(int16_t )x(;\n *int16_t )y', r'\1y\2x'),
+    ('a shift without its sign', HEADER, r'int16_t x;', 'uint16_t x;'),
+    ('a side in place of the edition', HEADER, r'(uint32_t edition;)\n *(uint8_t side;)', r'\2 \1'),
+    ('boat and edition exchanged', HEADER, r'(hromulice_ask_mount\(.*?uint32_t )boat(, uint32_t )edition', r'\1edition\2boat'),
+    ('a side too narrow to be refused', HEADER, r'(hromulice_mount_vector\()uint32_t', r'\1uint8_t'),
+    ('sheets that may not be written', HEADER, r'(hromulice_add_mount\()', r'\1const '),
+    ('two numbers exchanged', HEADER, r'(HROMULICE_EDITION = )21(.*?HROMULICE_SIDE = )22', r'\g<1>22\g<2>21'),
     ('fewer words of a state', CRATE, r'(STATE_WORDS: usize = )128', r'\g<1>99'),
     ('a function is missing', CRATE, r' *fn hromulice_hand_over\(.*?;\n', ''),
     ('a function that is not there', CRATE, r'( *fn hromulice_hand_over\()', r'    fn hromulice_end();\n\1'),
@@ -302,22 +318,34 @@ WRONG = [
     ('an answer of another type', CRATE, r'(fn hromulice_version\(\) -> )u32', r'\1u64'),
     ('two fields exchanged', CRATE, r'(pub )number: u8(,\n *pub )place: u64', r'\1place: u64\2number: u8'),
     ('no first bytes', CRATE, r' *pub firsts: Lengths,\n', ''),
+    ('x and y exchanged', CRATE, r'(pub )x(: i16,\n *pub )y', r'\1y\2x'),
+    ('side and edition exchanged', CRATE, r'(fn hromulice_add_mount\(.*?)edition: u32, side: u32', r'\1side: u32, edition: u32'),
+    ('sheets that may be written', CRATE, r'(fn hromulice_ask_mount\(sheets: \*)const', r'\1mut'),
     ("a struct of Rust's layout", CRATE, r'#\[repr\(C\)\]\n(pub struct Answer)', r'\1'),
     ('two numbers exchanged', REASONS, r'(SkipRule = )11(.*?WordAfterEnd = )12', r'\g<1>12\g<2>11'),
+    ('two numbers exchanged', REASONS, r'(NotNextEdition = )21(.*?SideNotPermitted = )22', r'\g<1>22\g<2>21'),
     ('another size of a record', SIZES, r'RECORD_BYTES: usize = 24', 'RECORD_BYTES: usize = 32'),
     ('another size of a command', SIZES, r'COMMAND_WORDS: usize = 9', 'COMMAND_WORDS: usize = 8'),
+    ('another size of a sheet', MOUNTS, r'SHEET_BYTES: usize = 16', 'SHEET_BYTES: usize = 24'),
     ('another version', CARGO, r'(\nversion = ")', r'\g<1>1'),
     ('another size of a record', EXAMPLE, r'RECORD_BYTES 24', 'RECORD_BYTES 32'),
+    ('another size of a sheet', MOUNTS_EXAMPLE, r'SHEET_BYTES 16', 'SHEET_BYTES 24'),
     ('fewer words of a state', COMPARISON, r'(STATE_WORDS: usize = )128', r'\g<1>99'),
     ('an argument of another type', COMPARISON, r'(fn hromulice_begin\(lengths: CLengths, state: \*)mut', r'\1const'),
     ('first bytes before lengths', COMPARISON, r'lengths(: CLengths,\n *)firsts', r'firsts\1lengths'),
+    ('x and y exchanged', COMPARISON, r'x(: i16,\n *)y', r'y\1x'),
     ('more words of a state', MEMORY, r'(WORDS: usize = )128', r'\g<1>129'),
     ('two fields exchanged', STRUCTS[1], r'(pub )source(: u64,\n *pub )reconstructed', r'\1reconstructed\2source'),
     ('a field narrower', STRUCTS[0], r'place: u64', 'place: u32'),
     ('no first bytes', STRUCTS[0], r' *pub firsts: Lengths,\n', ''),
+    ('x and y exchanged', STRUCTS[0], r'(pub )x(: i16,\n *pub )y', r'\1y\2x'),
+    ('a shift without its sign', STRUCTS[0], r'x: i16', 'x: u16'),
     ('a function is not exported', f'{EXPORTS}/single.rt', r'#\[no_mangle\]\n', ''),
     ('an argument of another type', f'{EXPORTS}/whole.rt', r'words: &\[u32\]', 'words: &[u64]'),
     ('an argument that is written', f'{EXPORTS}/handing.rt', r'(report_of\(memory: &)', r'\1mut '),
+    ('boat and edition exchanged', MOUNTING, r'(hromulice_ask_mount\(.*?)boat: u32, edition: u32', r'\1edition: u32, boat: u32'),
+    ('edition and side exchanged', MOUNTING, r'(hromulice_add_mount\(.*?)edition: u32,\s+side: u32', r'\1side: u32, edition: u32'),
+    ('sheets that are not written', MOUNTING, r'(hromulice_add_mount\(\s*sheets: &)mut ', r'\1'),
     ('another version', f'{EXPORTS}/version.rt', r'(MAJOR: u32 = )', r'\g<1>1'),
 ]
 

@@ -9,8 +9,12 @@
 #define ARGUMENTS_hromulice_read_command (words, 9, bytes, 24)
 #define ARGUMENTS_hromulice_write_command (bytes, 24, words, 9)
 #define ARGUMENTS_hromulice_report_of (state)
+#define ARGUMENTS_hromulice_ask_mount (bytes, 16, 1, 7, 1)
+#define ARGUMENTS_hromulice_add_mount (bytes, 16, 0, 7, 1, 0)
+#define ARGUMENTS_hromulice_mount_vector (0, 1, 2)
 #define ARGUMENTS_hromulice_meaning (0)
 #define ARGUMENTS_hromulice_buffer_name (0)
+#define ARGUMENTS_hromulice_side_name (0)
 #define CALL_OF(name) name ARGUMENTS_##name
 #define CALL(name) CALL_OF(name)
 

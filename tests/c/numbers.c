@@ -1,7 +1,7 @@
 /* Has the library give each number that its functions give, HROMULICE_TOO_MANY_WORDS apart (many.c): the answer is the enumerator, at the
  * place that document 01 says. The inputs are document 01's cases and variants of them, and what is due is written down from that paper, the
- * lengths from document 02's R-3 and the first bytes from its R-8. Prints the names of the enumerators that were given, and ends with 1 at
- * another answer. */
+ * lengths from document 02's R-3, the first bytes from its R-8, and all of mount sheets from its R-9. Prints the names of the enumerators
+ * that were given, and ends with 1 at another answer. */
 #include "p1.h"
 #include <hromulice.h>
 #include <inttypes.h>
@@ -178,6 +178,121 @@ static void check_singles(void)
     write_one(NAMED(HROMULICE_RECORD), 13, record, 24, 9);
 }
 
+/* Boat 12 on port, boat 30 on starboard, then boat 12 on starboard; behind these three sheets there is room for one more and a byte. */
+static const uint8_t sheets[65] = {
+    12, 0, 0, 0, 1, 0, 0, 0, 1, 0, 0, 0, 0, 0, 0, 0,
+    30, 0, 0, 0, 1, 0, 0, 0, 0, 0, 0, 0, 0, 0, 0, 0,
+    12, 0, 0, 0, 2, 0, 0, 0, 0, 0, 0, 0, 0, 0, 0, 0,
+    0xEE, 0xEE, 0xEE, 0xEE, 0xEE, 0xEE, 0xEE, 0xEE, 0xEE, 0xEE, 0xEE, 0xEE, 0xEE, 0xEE, 0xEE, 0xEE, 0xEE
+};
+
+static void ask(const char *name, uint8_t number, uint64_t place, const uint8_t *lent, size_t bytes, uint64_t count, uint32_t boat,
+                uint32_t edition, hromulice_mount due)
+{
+    hromulice_mount mount = hromulice_ask_mount(lent, bytes, count, boat, edition);
+    expect(mount.number == number && mount.place == place, name, "asking for a sheet");
+    expect(mount.edition == due.edition && mount.side == due.side, name, "with another sheet, asking for a sheet");
+    printf("%s\n", name);
+}
+
+/* Boat 12's next edition is 3. Only an accepted one is written, behind the third sheet, and counted. */
+static void add(const char *name, uint8_t number, uint64_t place, const uint8_t *before, size_t bytes, uint64_t count, uint32_t edition,
+                uint32_t side)
+{
+    uint8_t lent[COUNT(sheets)], due[COUNT(sheets)];
+    hromulice_mounts mounts;
+    memcpy(lent, before, sizeof lent);
+    memcpy(due, before, sizeof due);
+    if (number == HROMULICE_ACCEPTED) {
+        memcpy(due + 48, sheets, 16);
+        due[52] = (uint8_t)edition;
+        due[56] = (uint8_t)side;
+    }
+    mounts = hromulice_add_mount(lent, bytes, count, 12, edition, side);
+    expect(mounts.number == number && mounts.place == place, name, "adding a sheet");
+    expect(mounts.count == (number == HROMULICE_ACCEPTED ? count + 1 : count), name, "with another count, adding a sheet");
+    expect(memcmp(lent, due, sizeof lent) == 0, name, "with other bytes, adding a sheet");
+    printf("%s\n", name);
+}
+
+/* One byte changed, or so many bytes or sheets: 20 at this place, whoever asks or adds, and whatever else is wrong. */
+typedef struct {
+    uint64_t place;
+    size_t changed;
+    uint8_t value;
+    size_t bytes;
+    uint64_t count;
+} damage;
+
+static const damage damages[] = {
+    {2, 0, 12, 47, 3},                 /* "A number of records that the bytes can't hold gives 20 with the number they can" */
+    {4, 8, 2, 65, 5},                  /* before "the first bad stored record" */
+    {4, 0, 12, 65, UINT64_MAX},
+    {4, 0, 12, 65, (uint64_t)1 << 60}, /* 16 times that is 0 in 64 bits */
+    {0, 8, 2, 65, 3},                  /* "side above 1" */
+    {1, 25, 1, 65, 3},                 /* "non-zero filler", its first and its last byte */
+    {2, 47, 0x80, 65, 3},
+    {0, 4, 0, 65, 3},                  /* "not its boat's next edition" */
+    {1, 20, 2, 65, 3},
+    {2, 36, 3, 65, 3},
+    {1, 0, 30, 65, 3}                  /* boat 30 twice with edition 1 */
+};
+
+/* "The checks come as 20, 19, 22, 21, 14." */
+static void check_mounts(void)
+{
+    static const hromulice_mount no_sheet = {0, 0, 0, 0}, port_1 = {0, 0, 1, 1}, starboard_1 = {0, 0, 1, 0}, starboard_2 = {0, 0, 2, 0};
+    uint8_t lent[COUNT(sheets)];
+    size_t i;
+    for (i = 0; i < COUNT(damages); i++) {
+        const damage *d = damages + i;
+        memcpy(lent, sheets, sizeof lent);
+        lent[d->changed] = d->value;
+        ask(NAMED(HROMULICE_SHEETS), d->place, lent, d->bytes, d->count, 12, 1, no_sheet);
+        ask(NAMED(HROMULICE_SHEETS), d->place, lent, d->bytes, d->count, 7, 0, no_sheet);
+        add(NAMED(HROMULICE_SHEETS), d->place, lent, d->bytes, d->count, 3, 1);
+        add(NAMED(HROMULICE_SHEETS), d->place, lent, d->bytes, d->count, 9, 2);
+    }
+    ask(NAMED(HROMULICE_ACCEPTED), 0, sheets, 65, 3, 12, 1, port_1);
+    ask(NAMED(HROMULICE_ACCEPTED), 0, sheets, 48, 3, 12, 2, starboard_2);
+    ask(NAMED(HROMULICE_ACCEPTED), 0, sheets, 65, 3, 12, 4294967295u, starboard_2);
+    ask(NAMED(HROMULICE_ACCEPTED), 0, sheets, 65, 2, 12, 2, port_1);
+    ask(NAMED(HROMULICE_ACCEPTED), 0, sheets, 65, 3, 30, 2, starboard_1);
+    ask(NAMED(HROMULICE_NO_SHEET), 0, sheets, 65, 3, 12, 0, no_sheet);
+    ask(NAMED(HROMULICE_NO_SHEET), 0, sheets, 65, 3, 7, 4294967295u, no_sheet);
+    ask(NAMED(HROMULICE_NO_SHEET), 0, NULL, 0, 0, 12, 1, no_sheet);
+    add(NAMED(HROMULICE_ACCEPTED), 0, sheets, 64, 3, 3, 1);
+    add(NAMED(HROMULICE_ACCEPTED), 0, sheets, 65, 3, 3, 0);
+    add(NAMED(HROMULICE_SIDE), 0, sheets, 63, 3, 4, 2);
+    add(NAMED(HROMULICE_SIDE), 0, sheets, 65, 3, 3, 256);
+    add(NAMED(HROMULICE_EDITION), 0, sheets, 63, 3, 4, 1);
+    add(NAMED(HROMULICE_EDITION), 0, sheets, 65, 3, 2, 1);
+    add(NAMED(HROMULICE_EDITION), 0, sheets, 65, 3, 0, 1);
+    add(NAMED(HROMULICE_ROOM_SHORT), 0, sheets, 63, 3, 3, 1);
+}
+
+static void turn(const char *name, uint8_t number, uint32_t side, int16_t x, int16_t y, int16_t due_x, int16_t due_y)
+{
+    hromulice_shift shift = hromulice_mount_vector(side, x, y);
+    expect(shift.number == number && shift.place == 0, name, "the vector of a shift");
+    expect(shift.x == due_x && shift.y == due_y, name, "with another vector, the vector of a shift");
+    printf("%s\n", name);
+}
+
+/* "(x, y) on starboard and (-x, y) on port". */
+static void check_vectors(void)
+{
+    turn(NAMED(HROMULICE_ACCEPTED), 0, 5, -3, 5, -3);
+    turn(NAMED(HROMULICE_ACCEPTED), 1, 5, -3, -5, -3);
+    turn(NAMED(HROMULICE_ACCEPTED), 1, -32767, 32767, 32767, 32767);
+    turn(NAMED(HROMULICE_ACCEPTED), 0, -32768, -32768, -32768, -32768);
+    turn(NAMED(HROMULICE_ACCEPTED), 1, 32767, -32768, -32767, -32768);
+    turn(NAMED(HROMULICE_SHIFT), 1, -32768, 5, 0, 0);
+    turn(NAMED(HROMULICE_SIDE), 2, -32768, 5, 0, 0);
+    turn(NAMED(HROMULICE_SIDE), 256, 5, 5, 0, 0);
+    turn(NAMED(HROMULICE_SIDE), 4294967295u, 5, 5, 0, 0);
+}
+
 int main(void)
 {
     check_p1();
@@ -186,5 +301,7 @@ int main(void)
     check_p8(NAMED(HROMULICE_SKIP), 28, 0xFF333400, 0x00000104, 0);            /* skipped, and first in its slice */
     check_p11();
     check_singles();
+    check_mounts();
+    check_vectors();
     return 0;
 }

@@ -1,5 +1,5 @@
-/* Prints the texts of hromulice_text.h as texts.txt has them: each number and each buffer with a text of its own. 255 is no answer's
- * number, and the greatest place is no buffer's: their texts are those of all others. */
+/* Prints the texts of hromulice_text.h as texts.txt has them: each number, each buffer and each side with a text of its own. 255 is no
+ * answer's number and no side, and the greatest place is no buffer's: their texts are those of all others. */
 #include <hromulice_text.h>
 #include <stdio.h>
 #include <string.h>
@@ -13,5 +13,8 @@ int main(void)
     for (number = 0; number < 1000; number++)
         if (strcmp(hromulice_buffer_name((uint64_t)number), hromulice_buffer_name(UINT64_MAX)) != 0)
             printf("buffer %d %s\n", number, hromulice_buffer_name((uint64_t)number));
+    for (number = 0; number < 256; number++)
+        if (strcmp(hromulice_side_name((uint8_t)number), hromulice_side_name(255)) != 0)
+            printf("side %d %s\n", number, hromulice_side_name((uint8_t)number));
     return 0;
 }

@@ -90,7 +90,7 @@ module _ (bytes : List ℕ) (count : ℕ) (s : Sheet) (e : addAnswer bytes count
       ∙ drop-at (sheetRecord s) (drop (at + length (sheetRecord s)) bytes) 16 (record-length s)
       ∙ ap (λ (i : ℕ). drop i bytes) whole
 
-  pub add-leaves : AddLeaves bytes count s after
+  pub add-leaves : AddLeaves bytes count s (bytesAfter bytes count s)
   add-leaves = record { same-length = same-length; before-it = before-it; the-record = the-record; beyond-it = beyond-it }
 
   agree : Agree bytes after count
@@ -118,7 +118,7 @@ module _ (bytes : List ℕ) (count : ℕ) (s : Sheet) (e : addAnswer bytes count
       sound-stored after (suc count) (record { held = subst (λ (i : ℕ). suc count ≤ i / 16) (sym n) r; good = good })
 
   -- Asking for its edition or a later one gives what was added.
-  pub added-found : s .boat < 2 ^ 32 → s .edition < 2 ^ 32 → (edition : ℕ) → s .edition ≤ edition → asked after (suc count) (s .boat) edition ≡ Found s
+  pub added-found : s .boat < 2 ^ 32 → s .edition < 2 ^ 32 → (edition : ℕ) → s .edition ≤ edition → asked (bytesAfter bytes count s) (suc count) (s .boat) edition ≡ Found s
   added-found hb he edition l =
       let test = both-true (eq-eqb (s .boat) (s .boat) refl) (le-leb (s .edition) edition l) in
       found-asked after (suc count) (s .boat) edition s (sound-after hb he)

@@ -1,6 +1,7 @@
 //! One question at a time to the library, each through the C interface and through the Rust crate, held against the answer due.
 
 use crate::interface::{Interface, STATE_WORDS};
+use crate::mounts::CompareMounts;
 use crate::tally::Tally;
 use hromulice::{Check, Lengths, Refusal};
 use reference::check::{check, Report};
@@ -19,7 +20,7 @@ pub struct Mismatch {
 
 pub type Compared = Result<(), Mismatch>;
 
-fn same<T: PartialEq + Debug>(question: impl Fn() -> String, due: &T, given: &T) -> Compared {
+pub(crate) fn same<T: PartialEq + Debug>(question: impl Fn() -> String, due: &T, given: &T) -> Compared {
     if due == given {
         return Ok(());
     }
@@ -54,6 +55,7 @@ pub fn lent(room: usize, start: u8) -> Vec<u8> {
 pub struct Compare {
     interface: Interface,
     pub tally: Tally,
+    pub mounts: CompareMounts,
 }
 
 impl Compare {

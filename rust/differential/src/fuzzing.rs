@@ -1,10 +1,11 @@
 //! Any bytes as a question, for coverage-guided fuzzing:
 //!
-//!     0    operation: 0 a batch whole, in parts and decoded, 1 a command, 2 a record, 3 a state of any content
-//!     1    the room that is lent
+//!     0    operation: 0 a batch whole, in parts and decoded, 1 a command, 2 a record, 3 a state of any content, 4 mount sheets
+//!     1    the room that is lent, or how many mount sheets are counted
 //!     2    the lengths beside a batch
 //!     3    how a batch is parted
-//!     4..  the words, little-endian (of a record its bytes, of a state its 128 64-bit words and then a part)
+//!     4..  the words, little-endian (of a record its bytes, of a state its 128 64-bit words and then a part; before mount sheets
+//!          boat, edition and side)
 
 use crate::compare::{Compare, Compared};
 use crate::interface::{Interface, STATE_WORDS};
@@ -12,10 +13,10 @@ use reference::batch_valid::once_in;
 use reference::check::{beside, judge, lengths_of};
 use reference::decode::log_bytes;
 use reference::generate::batches::Batches;
-use reference::generate::{input, single};
+use reference::generate::{input, mounts, single};
 use reference::random::Random;
 
-pub const OPERATIONS: u8 = 4;
+pub const OPERATIONS: u8 = 5;
 
 pub fn words_of(bytes: &[u8]) -> Vec<u32> {
     bytes.chunks_exact(4).map(|word| u32::from_le_bytes(word.try_into().unwrap())).collect()
@@ -57,6 +58,21 @@ fn ask_batch(compare: &mut Compare, [room, buffers, parting]: [u8; 3], words: &[
     compare.decoded(words, buffers, room, due)
 }
 
+/// Asks for a sheet and adds one, with as many sheets as the bytes hold, some fewer or some more.
+fn ask_mounts(compare: &mut Compare, counted: u8, bytes: &[u8]) -> Compared {
+    let Some((question, sheets)) = bytes.split_first_chunk::<12>() else { return Ok(()) };
+    let [boat, edition, side] = words_of(question)[..] else { unreachable!("12 bytes are three words") };
+    let (held, step) = (sheets.len() as u64 / 16, u64::from(counted / 4));
+    let count = match counted % 4 {
+        0 => held,
+        1 => held.saturating_sub(step),
+        2 => held + step,
+        _ => u64::MAX - step,
+    };
+    compare.mounts.ask(sheets, count, (boat, edition))?;
+    compare.mounts.add(sheets, count, (boat, edition, side))
+}
+
 /// Asks the question that these bytes are. Fewer than four are none.
 pub fn ask(compare: &mut Compare, bytes: &[u8]) -> Compared {
     let Some(([operation, room, buffers, parting], rest)) = bytes.split_first_chunk() else { return Ok(()) };
@@ -64,6 +80,7 @@ pub fn ask(compare: &mut Compare, bytes: &[u8]) -> Compared {
         0 => ask_batch(compare, [*room, *buffers, *parting], &words_of(rest)),
         1 => compare.command(&words_of(rest), usize::from(room % 64)),
         2 => compare.record(rest, usize::from(room % 16)),
+        4 => ask_mounts(compare, *room, rest),
         _ => {
             let mut state = [0; STATE_WORDS];
             let words: Vec<u64> = rest.chunks_exact(8).map(|word| u64::from_le_bytes(word.try_into().unwrap())).collect();
@@ -88,6 +105,13 @@ fn state(r: &mut Random, batches: &Batches) -> Vec<u8> {
     state.iter().flat_map(|word| word.to_le_bytes()).chain(bytes_of(rest)).collect()
 }
 
+/// A question about mount sheets.
+fn mount_sheets(r: &mut Random) -> Vec<u8> {
+    let book = mounts::book(r);
+    let (boat, edition, side) = mounts::addition(r, &book.records());
+    [bytes_of(&[boat, edition, side]), book.sheets].concat()
+}
+
 /// A generated question, for a fuzzer to begin with.
 pub fn seed(r: &mut Random, batches: &Batches) -> Vec<u8> {
     let [room, buffers, parting] = [0; 3].map(|_| r.next() as u8);
@@ -95,6 +119,7 @@ pub fn seed(r: &mut Random, batches: &Batches) -> Vec<u8> {
         0 => (1, bytes_of(&single::command(r).0)),
         1 => (2, single::record(r).0),
         2 => (3, state(r, batches)),
+        3 => (4, mount_sheets(r)),
         _ => (0, bytes_of(&batches.next(r).words)),
     };
     [vec![operation, room, buffers, parting], rest].concat()

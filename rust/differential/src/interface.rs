@@ -4,6 +4,7 @@ use crate::lent::Lent;
 use hromulice as _;
 use reference::check::Report;
 use reference::command::Answer;
+use reference::mounts::{self, Sheet};
 
 #[repr(C)]
 struct CLengths {
@@ -27,6 +28,29 @@ struct CAnswer {
     place: u64,
 }
 
+#[repr(C)]
+struct CMount {
+    number: u8,
+    place: u64,
+    edition: u32,
+    side: u8,
+}
+
+#[repr(C)]
+struct CMounts {
+    number: u8,
+    place: u64,
+    count: u64,
+}
+
+#[repr(C)]
+struct CShift {
+    number: u8,
+    place: u64,
+    x: i16,
+    y: i16,
+}
+
 /// The words of a state.
 pub const STATE_WORDS: usize = 128;
 
@@ -38,6 +62,9 @@ extern "C" {
     fn hromulice_begin(lengths: CLengths, state: *mut u64);
     fn hromulice_hand_over(state: *mut u64, part: *const u32, count: usize);
     fn hromulice_report_of(state: *const u64) -> CReport;
+    fn hromulice_ask_mount(sheets: *const u8, bytes: usize, count: u64, boat: u32, edition: u32) -> CMount;
+    fn hromulice_add_mount(sheets: *mut u8, bytes: usize, count: u64, boat: u32, edition: u32, side: u32) -> CMounts;
+    fn hromulice_mount_vector(side: u32, x: i16, y: i16) -> CShift;
 }
 
 fn lengths([source, reconstructed, forward, backward]: [u64; 4]) -> CLengths {
@@ -71,6 +98,13 @@ pub fn check_parts_in_place(words: &[u32], buffers: [u64; 4], part: usize) -> Re
         words.chunks(part).for_each(|part| hromulice_hand_over(state.as_mut_ptr(), part.as_ptr(), part.len()));
         report(hromulice_report_of(state.as_ptr()))
     }
+}
+
+/// The vector of a measured shift.
+pub fn mount_vector(side: u32, x: i16, y: i16) -> mounts::Answer<(i16, i16)> {
+    // SAFETY: nothing is lent.
+    let CShift { number, place, x, y } = unsafe { hromulice_mount_vector(side, x, y) };
+    mounts::Answer { number, place, value: (x, y) }
 }
 
 /// The library's functions, and the memory that is lent to them: each call gets copies that end at a closed page.
@@ -112,6 +146,22 @@ impl Interface {
         // SAFETY: as many bytes and words are lent as are counted.
         let of = unsafe { hromulice_write_command(input, record.len(), output, words.len()) };
         (answer(of), self.output.now())
+    }
+
+    /// The answer, and the lent bytes afterwards.
+    pub fn ask_mount(&mut self, sheets: &[u8], count: u64, boat: u32, edition: u32) -> (mounts::Answer<Sheet>, Vec<u8>) {
+        let input = self.input.lend(sheets);
+        // SAFETY: as many bytes are lent as there are.
+        let CMount { number, place, edition, side } = unsafe { hromulice_ask_mount(input, sheets.len(), count, boat, edition) };
+        (mounts::Answer { number, place, value: Sheet { edition, side } }, self.input.now())
+    }
+
+    /// The answer, and the lent bytes afterwards.
+    pub fn add_mount(&mut self, sheets: &[u8], count: u64, boat: u32, edition: u32, side: u32) -> (mounts::Answer<u64>, Vec<u8>) {
+        let output = self.output.lend(sheets);
+        // SAFETY: as many bytes are lent as there are.
+        let of = unsafe { hromulice_add_mount(output, sheets.len(), count, boat, edition, side) };
+        (mounts::Answer { number: of.number, place: of.place, value: of.count }, self.output.now())
     }
 
     /// A check in parts, in a state that held anything before.

@@ -6,6 +6,8 @@ pub mod fuzzing;
 pub mod interface;
 pub mod lent;
 pub mod limit;
+pub mod mount_lists;
+pub mod mounts;
 pub mod program;
 pub mod questions;
 pub mod tally;

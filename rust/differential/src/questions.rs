@@ -1,4 +1,4 @@
-//! What is asked about one generated batch, command or record, or in one run of the program.
+//! What is asked about one generated batch, command, record or book of mount sheets, or in one run of the program.
 
 use crate::compare::{Compare, Compared, Mismatch};
 use crate::program::{run, way};
@@ -6,7 +6,7 @@ use reference::batch_valid::{once_in, pick};
 use reference::check::{beside, lengths_of, line};
 use reference::decode::log_bytes;
 use reference::generate::batches::{Batch, Batches};
-use reference::generate::{input, single};
+use reference::generate::{input, mount_lists, mounts, single};
 use reference::program::{answer, bytes_of};
 use reference::random::Random;
 use std::path::Path;
@@ -76,6 +76,61 @@ pub fn ask_single(compare: &mut Compare, r: &mut Random) -> Asked {
     let (bytes, room) = single::record(r);
     with_bytes(compare.record(&bytes, room), || bytes)
 }
+
+/// One book of mount sheets: several questions, and several addings to it as it stands.
+fn ask_book(compare: &mut Compare, r: &mut Random) -> Asked {
+    let book = mounts::book(r);
+    let records = book.records();
+    for _ in 0..4 {
+        let asked = compare.mounts.ask(&book.sheets, book.count, mounts::question(r, &records));
+        with_bytes(asked, || book.sheets.clone())?;
+        let added = compare.mounts.add(&book.sheets, book.count, mounts::addition(r, &records));
+        with_bytes(added, || book.sheets.clone())?;
+    }
+    Ok(())
+}
+
+/// A boat with more editions than 16 bits count.
+fn ask_long_book(compare: &mut Compare, r: &mut Random) -> Asked {
+    let (book, boat, newest) = mounts::long_book(r);
+    for edition in [1, 65_535, 65_536, newest, newest + 1] {
+        with_bytes(compare.mounts.ask(&book.sheets, book.count, (boat, edition)), || book.sheets.clone())?;
+    }
+    for edition in [newest, newest + 1, (newest + 1) % 65_536] {
+        with_bytes(compare.mounts.add(&book.sheets, book.count, (boat, edition, 1)), || book.sheets.clone())?;
+    }
+    Ok(())
+}
+
+/// One book; with every 8th a list of calls on another one, and with every 1000th a long one.
+pub fn ask_mounts(compare: &mut Compare, r: &mut Random, index: u64) -> Asked {
+    ask_book(compare, r)?;
+    if index % 8 == 7 {
+        let list = mount_lists::list(r);
+        with_bytes(compare.mounts.list(&list), || list.book.sheets)?;
+    }
+    if index % 1000 == 999 {
+        ask_long_book(compare, r)?;
+    }
+    Ok(())
+}
+
+/// Every x beside some y and every y beside some x, on both sides and on some that there are not.
+pub fn ask_vectors(compare: &mut Compare) -> Asked {
+    let some = [0, 1, -1, 255, 12345, i16::MAX, -i16::MAX, i16::MIN];
+    for (side, others) in [(0, &some[..]), (1, &some), (2, &some)].into_iter().chain(NO_SIDES.map(|side| (side, &some[6..]))) {
+        for other in others {
+            for every in i16::MIN..=i16::MAX {
+                let compared = compare.mounts.vector(side, every, *other);
+                with_bytes(compared.and_then(|()| compare.mounts.vector(side, *other, every)), Vec::new)?;
+            }
+        }
+    }
+    Ok(())
+}
+
+/// Sides above 1, of which the low bits alone would be one.
+const NO_SIDES: [u32; 8] = [3, 255, 256, 257, 1 << 16, (1 << 16) + 1, 1 << 31, u32::MAX];
 
 /// One run of the program; every 64th with a long input.
 pub fn ask_program(compare: &mut Compare, r: &mut Random, batches: &Batches, program: &Path, index: u64) -> Asked {

@@ -30,6 +30,29 @@ pub struct Answer {
 }
 
 #[repr(C)]
+pub struct Mount {
+    pub number: u8,
+    pub place: u64,
+    pub edition: u32,
+    pub side: u8,
+}
+
+#[repr(C)]
+pub struct Mounts {
+    pub number: u8,
+    pub place: u64,
+    pub count: u64,
+}
+
+#[repr(C)]
+pub struct Shift {
+    pub number: u8,
+    pub place: u64,
+    pub x: i16,
+    pub y: i16,
+}
+
+#[repr(C)]
 #[derive(Clone)]
 pub struct State {
     words: [u64; STATE_WORDS],
@@ -45,6 +68,9 @@ extern "C" {
     fn hromulice_begin(lengths: Lengths, state: *mut State);
     fn hromulice_hand_over(state: *mut State, part: *const u32, count: usize);
     fn hromulice_report_of(state: *const State) -> Report;
+    fn hromulice_ask_mount(sheets: *const u8, bytes: usize, count: u64, boat: u32, edition: u32) -> Mount;
+    fn hromulice_add_mount(sheets: *mut u8, bytes: usize, count: u64, boat: u32, edition: u32, side: u32) -> Mounts;
+    fn hromulice_mount_vector(side: u32, x: i16, y: i16) -> Shift;
 }
 
 pub fn version() -> u32 {
@@ -92,4 +118,19 @@ pub fn hand_over(state: &mut State, part: &[u32]) {
 pub fn report_of(state: &State) -> Report {
     // SAFETY: the state is only read and has all its words.
     unsafe { hromulice_report_of(state) }
+}
+
+pub fn ask_mount(sheets: &[u8], count: u64, boat: u32, edition: u32) -> Mount {
+    // SAFETY: the sheets' bytes are lent for the call and only read.
+    unsafe { hromulice_ask_mount(sheets.as_ptr(), sheets.len(), count, boat, edition) }
+}
+
+pub fn add_mount(sheets: &mut [u8], count: u64, boat: u32, edition: u32, side: u32) -> Mounts {
+    // SAFETY: the sheets' bytes are lent alone.
+    unsafe { hromulice_add_mount(sheets.as_mut_ptr(), sheets.len(), count, boat, edition, side) }
+}
+
+pub fn mount_vector(side: u32, x: i16, y: i16) -> Shift {
+    // SAFETY: nothing is lent.
+    unsafe { hromulice_mount_vector(side, x, y) }
 }

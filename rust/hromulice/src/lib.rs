@@ -1,13 +1,19 @@
 //! Safe functions over `libhromulice.a`, the proved checker of MPEG-2 command batches for Haswell's media engine.
 //!
 //! The checker stands between whoever builds a batch and the engine. It reads any words at all and answers: accepted, with
-//! the bytes that each of the four picture buffers must have and the first that is touched, or refused, with the number of the
-//! first rule that is broken and its place. "Document 01" is the rules document; its numbers are [`Reason`].
+//! the bytes that each of the four picture buffers must have and the first that is touched, or refused, with the number of
+//! the first rule that is broken and its place. "Document 01" is the rules document, and document 02 the changes to it; their
+//! numbers are [`Reason`].
+//!
+//! Which sign a boat's mount wants is not in a batch, and no check looks for it. Mount sheets tell it, in bytes that the
+//! caller keeps.
 //!
 //! - [`check`]: a batch that is there as a whole. A driver asks it before it submits the batch.
 //! - [`Check`]: the same for a batch that comes in parts, with the same answer.
 //! - [`decode`]: the check, and if it accepts, a 24-byte record of each macroblock, for a log.
 //! - [`read_command`] and [`write_command`]: one MACROBLOCK command to its record, and back to the same bits.
+//! - [`ask_mount`] and [`add_mount`]: mount sheets, which say edition by edition on which side of a boat the unit is mounted.
+//! - [`mount_vector`]: the vector of a measured shift on that side, the one place where a side becomes a sign.
 //! - [`meaning`]: what a number means, also one that a program printed.
 //! - [`version`]: the library's version, to be compared with the crate's, [`VERSION`].
 //! - [`state_words`]: the words that the library takes for a [`Check`].
@@ -28,7 +34,7 @@
 //! hand that copy to the engine. Words that are changed after the check were not checked.
 //!
 //! No call allocates, keeps a pointer or has global state, so calls may run on several threads at once. A refusal writes
-//! nothing into lent memory. The crate needs no standard library; the archive needs `memcpy`.
+//! nothing into lent memory. The crate needs no standard library; the archive needs `memcpy` and `memset`.
 //!
 //! # Building
 //!
@@ -41,6 +47,7 @@
 
 #[allow(unsafe_code)]
 mod ffi;
+mod mounts;
 mod parts;
 mod reason;
 mod report;
@@ -51,6 +58,7 @@ mod dropped;
 
 pub mod example;
 
+pub use mounts::{add_mount, ask_mount, mount_vector, Mount, Side, SHEET_BYTES};
 pub use parts::{state_words, Check};
 pub use reason::{meaning, Reason, Refusal};
 pub use report::{Buffer, Lengths, Report, Reported};
@@ -108,10 +116,11 @@ pub fn decode(words: &[u32], lengths: Lengths, log: &mut [u8]) -> Report {
     ffi::decode(words, lengths.into(), log).into()
 }
 
-fn result_of(answer: ffi::Answer) -> Result<(), Refusal> {
-    match answer.number {
+/// Whether a number is 0; otherwise it is a refusal with its place.
+fn result_of(number: u8, place: u64) -> Result<(), Refusal> {
+    match number {
         0 => Ok(()),
-        number => Err(report::refusal_of(number, answer.place)),
+        _ => Err(report::refusal_of(number, place)),
     }
 }
 
@@ -137,7 +146,8 @@ fn result_of(answer: ffi::Answer) -> Result<(), Refusal> {
 /// ```
 #[must_use = "the record is written only if the command is accepted"]
 pub fn read_command(words: &[u32], record: &mut [u8]) -> Result<(), Refusal> {
-    result_of(ffi::read_command(words, record))
+    let ffi::Answer { number, place } = ffi::read_command(words, record);
+    result_of(number, place)
 }
 
 /// Writes the MACROBLOCK command of one record to the first nine of `words`. It is the only command that gives the record.
@@ -154,5 +164,6 @@ pub fn read_command(words: &[u32], record: &mut [u8]) -> Result<(), Refusal> {
 /// ```
 #[must_use = "the command is written only if the record is legal"]
 pub fn write_command(record: &[u8], words: &mut [u32]) -> Result<(), Refusal> {
-    result_of(ffi::write_command(record, words))
+    let ffi::Answer { number, place } = ffi::write_command(record, words);
+    result_of(number, place)
 }

@@ -1,8 +1,8 @@
-//! Why a batch, a command or a record is refused.
+//! Why a batch, a command, a record, a sheet or a shift is refused.
 
 use core::fmt;
 
-/// The numbers of document 01's list that a call can give, 0 (accepted) apart.
+/// The numbers of documents 01 and 02 that a call can give, 0 (accepted) apart.
 ///
 /// ```
 /// use hromulice::Reason;
@@ -11,7 +11,10 @@ use core::fmt;
 /// assert_eq!(Reason::from_number(9), Some(Reason::VectorBeyondFCode));
 /// assert_eq!(Reason::from_number(9).unwrap().to_string(), "a vector is beyond its f code");
 /// ```
+///
+/// Later versions have more of them.
 #[derive(Clone, Copy, Debug, PartialEq, Eq, PartialOrd, Ord, Hash)]
+#[non_exhaustive]
 #[repr(u8)]
 pub enum Reason {
     /// 1: the words run out in a command or before END. The place is the number of words given.
@@ -40,17 +43,30 @@ pub enum Reason {
     WordAfterEnd = 12,
     /// 13: a picture buffer is too short. The place is the lowest such buffer, 0 to 3.
     BufferTooShort = 13,
-    /// 14: the memory lent for the result is too small. The place is the bytes or words needed.
+    /// 14: the memory lent for the result is too small. The place is the bytes or words needed, 0 by
+    /// [`add_mount`](crate::add_mount).
     RoomTooSmall = 14,
     /// 15: a record is not legal. The place is its first bad byte.
     RecordNotLegal = 15,
+    /// 19: the boat has no mount sheet of that edition or an earlier one. The place is 0.
+    NoSheet = 19,
+    /// 20: the bytes hold fewer mount sheets than were counted, or a counted one is bad: its side is above 1, one of its last
+    /// seven bytes is not zero, or its edition is not its boat's next one. The place is how many sheets the bytes can hold,
+    /// or the first bad sheet.
+    SheetsDamaged = 20,
+    /// 21: not the boat's next edition. The place is 0.
+    NotNextEdition = 21,
+    /// 22: a side is neither 0 nor 1. The place is 0.
+    SideNotPermitted = 22,
+    /// 23: an x of −32768 would have to be turned for port. The place is 0.
+    ShiftNotTurned = 23,
     /// 27: there are more than 4294967295 words, and the first 4294967295 break no rule. The place is 4294967295.
     TooManyWords = 27,
 }
 
 impl Reason {
     /// All of them, by number.
-    pub const ALL: [Reason; 16] = [
+    pub const ALL: [Reason; 21] = [
         Reason::WordsRunOut,
         Reason::UnknownHeader,
         Reason::OutOfSequence,
@@ -66,10 +82,15 @@ impl Reason {
         Reason::BufferTooShort,
         Reason::RoomTooSmall,
         Reason::RecordNotLegal,
+        Reason::NoSheet,
+        Reason::SheetsDamaged,
+        Reason::NotNextEdition,
+        Reason::SideNotPermitted,
+        Reason::ShiftNotTurned,
         Reason::TooManyWords,
     ];
 
-    /// Document 01's number.
+    /// Its number in the documents.
     #[must_use]
     pub const fn number(self) -> u8 {
         self as u8
@@ -101,6 +122,11 @@ impl Reason {
             Reason::BufferTooShort => "a picture buffer is too short",
             Reason::RoomTooSmall => "the lent room is too small",
             Reason::RecordNotLegal => "a record is not legal",
+            Reason::NoSheet => "the boat has no sheet of that edition or an earlier one",
+            Reason::SheetsDamaged => "the stored sheets are damaged, or fewer than were counted",
+            Reason::NotNextEdition => "not the boat's next edition",
+            Reason::SideNotPermitted => "a side is neither starboard (0) nor port (1)",
+            Reason::ShiftNotTurned => "a shift of -32768 cannot be turned for port",
             Reason::TooManyWords => "there are more than 4294967295 words",
         }
     }
@@ -112,7 +138,7 @@ impl fmt::Display for Reason {
     }
 }
 
-/// What a number of document 01's list means, in plain words: that of each [`Reason`], 0, which is acceptance, and 16, which
+/// What a number of the documents means, in plain words: that of each [`Reason`], 0, which is acceptance, and 16, which
 /// only programs give that read a batch from a file. `None` for a number that no answer has.
 ///
 /// ```
@@ -157,8 +183,14 @@ impl fmt::Display for Refusal {
         match reason {
             Reason::WordsRunOut => write!(f, "refused {number} after {place} words: {reason}"),
             Reason::BufferTooShort => write!(f, "refused {number}, buffer {place}: {reason}"),
+            // By an adding of a mount sheet 14 has no place.
+            Reason::RoomTooSmall if *place == 0 => write!(f, "refused {number}: {reason}"),
             Reason::RoomTooSmall => write!(f, "refused {number}, {place} needed: {reason}"),
             Reason::RecordNotLegal => write!(f, "refused {number} at byte {place}: {reason}"),
+            Reason::SheetsDamaged => write!(f, "refused {number} at sheet {place}: {reason}"),
+            Reason::NoSheet | Reason::NotNextEdition | Reason::SideNotPermitted | Reason::ShiftNotTurned => {
+                write!(f, "refused {number}: {reason}")
+            }
             _ => write!(f, "refused {number} at word {place}: {reason}"),
         }
     }

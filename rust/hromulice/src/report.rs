@@ -265,9 +265,9 @@ impl fmt::Display for Report {
     }
 }
 
-/// A number that is not 0, with its place. The archive is proved to answer with document 01's numbers alone.
+/// A number that is not 0, with its place. The archive is proved to answer with the documents' numbers alone.
 pub(crate) fn refusal_of(number: u8, place: u64) -> Refusal {
-    let reason = Reason::from_number(number).expect("a number of document 01");
+    let reason = Reason::from_number(number).expect("a number of the documents");
     Refusal { reason, place }
 }
 

@@ -1,6 +1,6 @@
 //! The texts are those of tests/c/texts.txt, to which tests/c/run holds the texts of hromulice_text.h.
 
-use hromulice::{meaning, Buffer, Reason};
+use hromulice::{meaning, Buffer, Reason, Side};
 
 #[test]
 fn same_as_in_c() {
@@ -10,6 +10,7 @@ fn same_as_in_c() {
         lines.extend(meaning(number).map(|text| format!("{number} {text}")));
     }
     lines.extend(Buffer::ALL.iter().map(|buffer| format!("buffer {} {buffer}", buffer.number())));
+    lines.extend(Side::ALL.iter().map(|side| format!("side {} {side}", side.number())));
     let stored = std::fs::read_to_string(file).unwrap();
     assert_eq!(lines, stored.lines().collect::<Vec<_>>());
 }

@@ -9,7 +9,7 @@ use std::collections::BTreeSet;
 #[test]
 fn numbers() {
     let numbers: Vec<u8> = Reason::ALL.iter().map(|reason| reason.number()).collect();
-    assert!(numbers.iter().copied().eq((1..=15).chain([27])));
+    assert!(numbers.iter().copied().eq((1..=15).chain(19..=23).chain([27])));
     for number in 0..=255 {
         assert_eq!(Reason::from_number(number).map(Reason::number), Some(number).filter(|number| numbers.contains(number)));
     }

@@ -1,7 +1,7 @@
-//! A second reading of document 01, with the bytes of document 02's, kept apart from the proved crates: it shares
-//! no code and no table with them. It gives the answers that the documents ask for by the plainest means: bit by bit, sample
-//! by sample, and commands found by trying them all. Beside them stand what it is asked: the stored cases, and generators of
-//! batches, commands and records.
+//! A second reading of document 01, with the bytes of document 02's and the mount sheets of its R-9, kept apart
+//! from the proved crates: it shares no code and no table with them. It gives the answers that the documents ask for by the
+//! plainest means: bit by bit, sample by sample, and commands found by trying them all. Beside them stand what it is asked: the
+//! stored cases, and generators of batches, commands, records and mount sheets.
 
 pub mod batch;
 pub mod batch_cases;
@@ -27,6 +27,12 @@ pub mod generate;
 pub mod interface_cases;
 pub mod leaf;
 pub mod leaf_cases;
+pub mod mounts;
+pub mod mounts_files;
+pub mod mounts_marks;
+pub mod mounts_reached;
+#[cfg(test)]
+mod mounts_tests;
 pub mod plain;
 pub mod program;
 pub mod random;

@@ -5,10 +5,16 @@
 //!     reference batch DIR     the same for whole batches beside their buffers' lengths, checked and decoded
 //!     reference samples DIR   small batches for the program, each with its line
 //!     reference interface DIR batches for the example in C, each with its line and its log
+//!     reference mounts DIR SEED COUNT   so many generated files of mount sheets, each with questions and their answers
 
-use reference::{batch_cases, cases, interface_cases, leaf_cases, samples};
+use reference::{batch_cases, cases, interface_cases, leaf_cases, mounts_files, samples};
 use std::path::Path;
 use std::process::ExitCode;
+
+fn usage() -> ExitCode {
+    eprintln!("usage: reference leaf|command|batch|samples|interface DIR, or reference mounts DIR SEED COUNT");
+    ExitCode::from(2)
+}
 
 fn main() -> ExitCode {
     let words: Vec<String> = std::env::args().skip(1).collect();
@@ -18,10 +24,11 @@ fn main() -> ExitCode {
         ["batch", dir] => batch_cases::write(Path::new(dir)),
         ["samples", dir] => samples::write(Path::new(dir)),
         ["interface", dir] => interface_cases::write(Path::new(dir)),
-        _ => {
-            eprintln!("usage: reference leaf|command|batch|samples|interface DIR");
-            return ExitCode::from(2);
-        }
+        ["mounts", dir, seed, count] => match (seed.parse(), count.parse()) {
+            (Ok(seed), Ok(count)) => mounts_files::write(Path::new(dir), seed, count),
+            _ => return usage(),
+        },
+        _ => return usage(),
     };
     match done {
         Ok(()) => ExitCode::SUCCESS,
