@@ -1,4 +1,4 @@
-//! Compiles the checker in C of tests/benchmark/c to an archive and links it. There is no crate for it: gcc and ar are called.
+//! Compiles what is in C, tests/benchmark/c, to an archive and links it. There is no crate for it: gcc and ar are called.
 
 use std::env;
 use std::path::{Path, PathBuf};
@@ -22,14 +22,14 @@ fn main() {
     let out = PathBuf::from(env::var_os("OUT_DIR").unwrap());
     println!("cargo::rerun-if-changed={}", sources.display());
     let mut archive = Command::new("ar");
-    archive.arg("crs").arg(out.join("libbatch_check.a"));
+    archive.arg("crs").arg(out.join("libbenchmark_c.a"));
     for source in files_in(&sources).iter().filter(|file| file.extension().is_some_and(|extension| extension == "c")) {
         let object = out.join(source.file_name().unwrap()).with_extension("o");
         run(Command::new("gcc").args(FLAGS).arg("-c").arg(source).arg("-o").arg(&object));
         archive.arg(object);
     }
-    let _ = std::fs::remove_file(out.join("libbatch_check.a"));
+    let _ = std::fs::remove_file(out.join("libbenchmark_c.a"));
     run(&mut archive);
     println!("cargo::rustc-link-search=native={}", out.display());
-    println!("cargo::rustc-link-lib=static=batch_check");
+    println!("cargo::rustc-link-lib=static=benchmark_c");
 }

@@ -7,12 +7,11 @@ use native.Mathlib.Omega.{arith}
 use lib.IntN.{ℤ, negℤ}
 use Rattle.answers.specs.Answers as answer
 use Rattle.answers.specs.declared.Answer.{Answer}
-use Rattle.answers.specs.declared.Answer.the-variants.{Accepted}
-use Rattle.answers.specs.declared.Answer.the-variants.{Refused as Declined}
+use Rattle.answers.specs.declared.Answer.the-variants.{Accepted, Refused as Declined}
 use Rattle.lists.specs.Calls.{Along}
 use Rattle.lists.proofs.Stepping.{along-view}
-use Rattle.mounts.specs.Claims.{Book, Call, lentWith, AddStep, HasEdition, AskRefusal, AddRefusal}
-use Rattle.mounts.specs.Mounts.{asked, added, addAnswer, bytesAfter}
+use Rattle.mounts.specs.Claims.{Book, Call, AddStep, HasEdition, AskRefusal, AddRefusal}
+use Rattle.mounts.specs.Mounts.{asked, added, addAnswer}
 use Rattle.mounts.specs.Sheets.{sheet}
 use Rattle.mounts.specs.Signs.{shift, vectorOn}
 use Rattle.mounts.specs.declared.Added.{Added}

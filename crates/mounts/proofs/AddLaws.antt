@@ -6,13 +6,12 @@ use Prim.Native.Nat.{ℕ, suc, _+_, _*_, _^_, _≤_, _<_}
 use native.Mathlib.Omega.{arith}
 use borrow.Author.Tests.{leb-true, ltb-true, ltb-false, eqb-true, le-leb, lt-leb, le-ltb, lt-ltb, eq-eqb, ne-eqb}
 use mathlib.Core.Logic.{inl, inr}
-use lib.Dec.{T, eqb, leb, ltb}
+use lib.Dec.{eqb, leb, ltb}
 use lib.ListN.{length, take, drop}
 use lib.Seq.{sets, sets-eq, drop-drop}
 use Rattle.mounts.proofs.SheetLaws.{record-length}
 use Rattle.mounts.proofs.StoredLaws.{bad-place}
-use Rattle.lists.proofs.Booleans.{no}
-use Rattle.answers.specs.Answers.{Rule, numberOf, placeOf, rule, answerBy, unless}
+use Rattle.answers.specs.Answers.{Rule, numberOf, placeOf, rule, unless}
 use Rattle.answers.specs.declared.Answer.{Answer}
 use Rattle.answers.specs.declared.Answer.the-variants.{Accepted, Refused}
 use Rattle.answers.proofs.Judging.{no-accepted}

@@ -1,27 +1,23 @@
 -- What adding leaves: one sheet more behind the others, which are judged as before; and what was added is found again.
 use mathlib.Core.Path.{_≡_, refl, sym, ap, ap₂, subst, _∙_}
-use mathlib.Core.Bool.{Bool, true, false, cond, _&&_}
+use mathlib.Core.Bool.{Bool, true, cond, _&&_}
 use mathlib.Core.List.{List, [], _∷_, _++_, append-assoc}
-use Prim.Native.Nat.{ℕ, zero, suc, _+_, _*_, _/_, _^_, _≤_, _<_}
+use Prim.Native.Nat.{ℕ, suc, _+_, _*_, _/_, _^_, _≤_, _<_}
 use native.Mathlib.Omega.{arith}
 use borrow.Author.Tests.{le-leb, eq-eqb}
 use lib.Dec.{eqb, leb}
-use lib.ListN.{length, take, drop, length-append}
-use lib.Seq.{sets, sets-eq, length-sets, length-take-le, take-at, drop-at, drop-drop}
-use Rattle.answers.specs.declared.Answer.{Answer}
+use lib.ListN.{length, take, drop}
+use lib.Seq.{sets-eq, length-sets, length-take-le, take-at, drop-at, drop-drop}
 use Rattle.answers.specs.declared.Answer.the-variants.{Accepted, Refused}
-use Rattle.fields.specs.Parts.{valueAt}
 use Rattle.lists.proofs.Booleans.{both-true}
 use Rattle.mounts.specs.Claims.{AddLeaves}
 use Rattle.mounts.specs.Editions.{newest, nextEdition}
-use Rattle.mounts.specs.Layout.{sheetFillerPart}
-use Rattle.mounts.specs.Mounts.{goodAfter, goodAt, firstBad, storedFault, asked, addAnswer, added, addedCount, addedBytes, bytesAfter}
-use Rattle.mounts.specs.Sheets.{sheetRecord, sheetIn, stored, sheetsIn, capacity}
+use Rattle.mounts.specs.Mounts.{goodAfter, goodAt, storedFault, asked, addAnswer, added, bytesAfter}
+use Rattle.mounts.specs.Sheets.{sheetRecord, sheetIn, stored, sheetsIn}
 use Rattle.mounts.specs.declared.Asked.the-variants.{Found}
-use Rattle.mounts.specs.declared.Newest.{Newest}
 use Rattle.mounts.specs.declared.Newest.the-variants.{At}
 use Rattle.mounts.specs.declared.Sheet.{Sheet}
-use Rattle.mounts.proofs.AddLaws.{Sound, Addable, add-addable, fits-exactly, sound-stored}
+use Rattle.mounts.proofs.AddLaws.{add-addable, fits-exactly, sound-stored}
 use Rattle.mounts.proofs.Agreeing.{Agree, same-sheets, same-judged}
 use Rattle.mounts.proofs.EditionLaws.{newest-next}
 use Rattle.mounts.proofs.Finding.{found-asked}

@@ -8,7 +8,6 @@ use lib.ListN.{length, take, drop, length-drop, take-append-drop}
 use lib.Seq.{length-take-le, take-append-le, drop-append-le}
 use Rattle.answers.specs.Answers.{rule, unless}
 use Rattle.answers.specs.declared.Answer.{Answer}
-use Rattle.answers.specs.declared.Answer.the-variants.{Accepted}
 use Rattle.mounts.specs.Mounts.{goodAfter, goodAt, firstBad}
 use Rattle.mounts.specs.Sheets.{sheetIn, stored, sheetsIn}
 use Rattle.mounts.specs.declared.Sheet.{Sheet}

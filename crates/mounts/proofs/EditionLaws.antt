@@ -6,7 +6,7 @@ use Prim.Native.Nat.{ℕ, zero, suc, _+_, _≤_, _<_}
 use native.Mathlib.Omega.{arith}
 use borrow.Author.Tests.{ne-eqb}
 use lib.Dec.{eqb, leb}
-use Rattle.mounts.specs.Editions.{those, ofBoat, notAbove, latest, newest, editionOf}
+use Rattle.mounts.specs.Editions.{those, ofBoat, notAbove, latest, newest}
 use Rattle.mounts.specs.Sheets.{sheetAt, sheetsIn}
 use Rattle.mounts.specs.declared.Newest.{Newest}
 use Rattle.mounts.specs.declared.Newest.the-variants.{At, Nothing}

@@ -14,13 +14,12 @@ use Rattle.lists.specs.Calls.{Along}
 use Rattle.lists.proofs.Stepping.{along}
 use Rattle.mounts.specs.Claims.{Book, Call, lentWith, AddStep, HasEdition}
 use Rattle.mounts.specs.Editions.{newest, editionOf, nextEdition}
-use Rattle.mounts.specs.Mounts.{storedFault, asked, addAnswer, added, bytesAfter}
+use Rattle.mounts.specs.Mounts.{asked, addAnswer, bytesAfter}
 use Rattle.mounts.specs.Sheets.{sheetsIn}
 use Rattle.mounts.specs.declared.Asked.the-variants.{Found}
-use Rattle.mounts.specs.declared.Newest.{Newest}
 use Rattle.mounts.specs.declared.Newest.the-variants.{At}
 use Rattle.mounts.specs.declared.Sheet.{Sheet}
-use Rattle.mounts.proofs.AddLaws.{Sound, stored-sound, sound-stored, add-addable, fits-exactly}
+use Rattle.mounts.proofs.AddLaws.{stored-sound, sound-stored, add-addable, fits-exactly}
 use Rattle.mounts.proofs.Adding.{refused-leaves, added-count, sheets-after, sound-after}
 use Rattle.mounts.proofs.Agreeing.{Agree, same-sheets, same-judged}
 use Rattle.mounts.proofs.EditionLaws.{newest-next}

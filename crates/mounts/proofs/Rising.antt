@@ -4,14 +4,14 @@ use mathlib.Core.Bool.{Bool, true, false, cond, _&&_}
 use mathlib.Core.List.{List, [], _∷_, _++_, append-nil}
 use Prim.Native.Nat.{ℕ, zero, suc, _+_, _≤_, _<_}
 use native.Mathlib.Omega.{arith}
-use borrow.Author.Tests.{leb-true, leb-false, eqb-true, le-leb, lt-leb}
+use borrow.Author.Tests.{leb-true, leb-false, eqb-true}
 use lib.Dec.{eqb, leb}
-use lib.ListN.{length, length-append}
-use Rattle.answers.specs.Answers.{rule, unless}
+use lib.ListN.{length}
+use Rattle.answers.specs.Answers.{rule}
 use Rattle.answers.specs.declared.Answer.the-variants.{Accepted}
-use Rattle.lists.proofs.Booleans.{and-left, and-right}
+use Rattle.lists.proofs.Booleans.{and-right}
 use Rattle.mounts.specs.Claims.{Rising}
-use Rattle.mounts.specs.Editions.{those, ofBoat, notAbove, latest, newest, editionOf, nextEdition, highestEdition}
+use Rattle.mounts.specs.Editions.{ofBoat, notAbove, latest, newest, editionOf, nextEdition, highestEdition}
 use Rattle.mounts.specs.Mounts.{goodAt, firstBad, storedFault}
 use Rattle.fields.specs.Parts.{valueAt}
 use Rattle.mounts.specs.Layout.{sheetFillerPart}

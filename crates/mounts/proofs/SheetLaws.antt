@@ -9,11 +9,11 @@ use lib.Dec.{eqb}
 use lib.ListN.{length, getD}
 use Rattle.lists.proofs.Booleans.{and-left, and-right, both-true, same}
 use Rattle.fields.specs.Bytes.{bytesOf, numberIn, elements, Bytes}
-use Rattle.fields.specs.Parts.{Part, part, valueAt}
+use Rattle.fields.specs.Parts.{valueAt}
 use Rattle.fields.proofs.Elements.{elements-all}
 use Rattle.fields.proofs.LittleEndian.{bytes-back, number-back}
 use Rattle.fields.proofs.PartLaws.{value-there, part-bytes, number-lt}
-use Rattle.mounts.specs.Layout.{sheetLength, boatPart, editionPart, sidePart, sheetFillerPart}
+use Rattle.mounts.specs.Layout.{boatPart, editionPart, sidePart, sheetFillerPart}
 use Rattle.mounts.specs.Sheets.{sheet, sheetRecord, sheetIn, stored, sheetAt}
 use Rattle.mounts.specs.declared.Sheet.{Sheet}
 
@@ -50,7 +50,7 @@ sheet-there bytes k = same-sheet (value-there 16 bytes k boatPart (omega arith))
 pub filler-there : (bytes : List ℕ) (k : ℕ) → valueAt sheetFillerPart (stored bytes k) ≡ numberIn (elements bytes (16 * k + 9) 7)
 filler-there bytes k = value-there 16 bytes k sheetFillerPart (omega arith)
 
--- The filler is zero if its first three bytes are, and the number in its last fourSheets.
+-- The filler is zero if its first three bytes are, and the number in its last four.
 zero-each : (b0 b1 b2 n : ℕ) → (eqb b0 0 && eqb b1 0 && eqb b2 0 && eqb n 0) ≡ eqb (b0 + 256 * (b1 + 256 * (b2 + 256 * n))) 0
 zero-each b0 b1 b2 n = same (eqb b0 0 && eqb b1 0 && eqb b2 0 && eqb n 0) (eqb (b0 + 256 * (b1 + 256 * (b2 + 256 * n))) 0) there back
   where
@@ -90,7 +90,7 @@ same-bytes es e9 e10 e11 e12 e13 e14 e15 = cc
 -- A record with zero filler comes back from its sheet, all its bytes.
 pub record-again : (r : List ℕ) → Bytes r → length r ≡ 16 → valueAt sheetFillerPart r ≡ 0 → sheetRecord (sheetIn r) ≡ r
 record-again r h n z =
-    let fourSheets : (i : ℕ) → elements r i 4 ≡ bytesOf 4 (numberIn (elements r i 4)) = λ i. sym (bytes-back (elements r i 4) (part-bytes r h i 4)) in
+    let four : (i : ℕ) → elements r i 4 ≡ bytesOf 4 (numberIn (elements r i 4)) = λ i. sym (bytes-back (elements r i 4) (part-bytes r h i 4)) in
     let one : numberIn (elements r 8 1) ≡ getD r 8 0 = omega arith in
     let side = number-lt (elements r 8 1) (part-bytes r h 8 1) in
     let e9 : getD r 9 0 ≡ 0 = omega (arith, z) in
@@ -100,6 +100,6 @@ record-again r h n z =
     let e13 : getD r 13 0 ≡ 0 = omega (arith, z) in
     let e14 : getD r 14 0 ≡ 0 = omega (arith, z) in
     let e15 : getD r 15 0 ≡ 0 = omega (arith, z) in
-    sym (record-listed (sheetIn r) (elements r 0 4) (elements r 4 4) (fourSheets 0) (fourSheets 4) side)
+    sym (record-listed (sheetIn r) (elements r 0 4) (elements r 4 4) (four 0) (four 4) side)
     ∙ same-bytes one e9 e10 e11 e12 e13 e14 e15
     ∙ elements-all r 16 n

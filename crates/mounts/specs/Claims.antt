@@ -7,10 +7,9 @@ use mathlib.Core.List.{List, [], _∷_, _++_}
 use mathlib.Core.Logic.{_⊎_}
 use mathlib.Core.Path.{_≡_}
 use lib.ListN.{length, take, drop}
-use Rattle.answers.specs.declared.Answer.the-variants as answer
 use Rattle.mounts.specs.Layout.{sheetLength}
-use Rattle.mounts.specs.Mounts.{goodAt, storedFault, asked, addAnswer, added, bytesAfter}
-use Rattle.mounts.specs.Sheets.{sheet, sheetRecord, sheetAt}
+use Rattle.mounts.specs.Mounts.{goodAt, asked, added, bytesAfter}
+use Rattle.mounts.specs.Sheets.{sheetRecord, sheetAt}
 use Rattle.mounts.specs.declared.Asked.the-variants.{Found}
 use Rattle.mounts.specs.declared.Sheet.{Sheet}
 

@@ -58,7 +58,7 @@ askExamples =
     ∷ ask (set fourSheets 40 2) 2 7 1 (Found (sheet 7 1 1))
     ∷ []
 
--- Adding: so many bytes of 0xAA are lent behind the fourSheets sheets; what is answered, how many sheets there are then, and the bytes.
+-- Adding: so many bytes of 0xAA are lent behind the four sheets; what is answered, how many sheets there are then, and the bytes.
 pub record AddExample : Type 0 where
   pub bytes : List ℕ
   pub count : ℕ

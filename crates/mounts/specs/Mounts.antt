@@ -11,7 +11,7 @@ use Rattle.answers.specs.declared.Answer.the-variants as answer
 use Rattle.fields.specs.Parts.{valueAt}
 use Rattle.mounts.specs.Editions.{newest, nextEdition}
 use Rattle.mounts.specs.Layout.{sheetLength, sheetFillerPart, port}
-use Rattle.mounts.specs.Sheets.{sheet, sheetRecord, sheetIn, stored, sheetsIn, capacity}
+use Rattle.mounts.specs.Sheets.{sheetRecord, sheetIn, stored, sheetsIn, capacity}
 use Rattle.mounts.specs.declared.Added.{Added}
 use Rattle.mounts.specs.declared.Asked.{Asked}
 use Rattle.mounts.specs.declared.Asked.the-variants.{Found, Refused}

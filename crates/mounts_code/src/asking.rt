@@ -7,7 +7,7 @@ ghost use mathlib.Core.Path.{_≡_};
 ghost use Prim.Native.Nat.{_+_, _*_, _≤_};
 ghost use lib.ListN.{length};
 ghost use Rattle.answers.specs.declared.Answer.the-variants.{Accepted};
-ghost use Rattle.mounts.specs.Editions.{newest, editionOf, nextEdition};
+ghost use Rattle.mounts.specs.Editions.{newest, editionOf};
 ghost use Rattle.mounts.specs.Mounts.{firstBad, storedFault, foundOrNone, asked};
 ghost use Rattle.mounts.specs.Sheets.{sheetsIn};
 

@@ -10,7 +10,7 @@ ghost use Rattle.fields.specs.Parts.{valueAt};
 ghost use Rattle.mounts.specs.Layout.{sheetFillerPart};
 ghost use Rattle.mounts.specs.Sheets.{sheetRecord, stored, sheetAt, sheetOf};
 
-// The number in fourSheets bytes.
+// The number in four bytes.
 fn number_at(bytes: &[u8], at: usize) -> u32
     requires { ⌜ at + 4 ≤ length (now bytes) ⌝ }
     ensures { λ r. ⌜ r ≡ numberIn (elements (now (bytes .entry)) at 4) ⌝ }

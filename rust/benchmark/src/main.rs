@@ -2,6 +2,7 @@
 //!
 //!     benchmark tables                 speed on nine pictures, growth, with cleared caches, on low pictures and far vectors
 //!     benchmark details                NOOPs, carried commands, small parts
+//!     benchmark mounts                 mount sheets, and the vector of a shift
 //!     benchmark program CHECKER DIR    the program CHECKER, with inputs stored in DIR
 //!     benchmark repeat NAME BATCH N    N calls of one contender on a batch, for counting instructions
 //!
@@ -11,7 +12,7 @@
 use benchmark::commands::{carried_before, noops_before, noops_within, CARRIED, PICTURE};
 use benchmark::contenders::{Work, CONTENDERS};
 use benchmark::pictures::Picture;
-use benchmark::{details, program, tables};
+use benchmark::{details, mounts, program, tables};
 use std::path::Path;
 use std::process::ExitCode;
 
@@ -46,6 +47,7 @@ fn main() -> ExitCode {
     match arguments.iter().map(String::as_str).collect::<Vec<_>>()[..] {
         ["tables"] => tables::print(),
         ["details"] => details::print(),
+        ["mounts"] => mounts::print(),
         ["program", checker, dir] => {
             if let Err(e) = program::measure(Path::new(checker), Path::new(dir)) {
                 eprintln!("benchmark: {e}");
@@ -54,7 +56,7 @@ fn main() -> ExitCode {
         }
         ["repeat", name, of, count] if repeat(name, of, count).is_some() => {}
         _ => {
-            eprintln!("usage: benchmark tables | details | program CHECKER DIR | repeat NAME BATCH N");
+            eprintln!("usage: benchmark tables | details | mounts | program CHECKER DIR | repeat NAME BATCH N");
             return ExitCode::from(2);
         }
     }

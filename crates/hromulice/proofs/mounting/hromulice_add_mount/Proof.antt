@@ -1,5 +1,5 @@
 -- `hromulice_add_mount`: what `add` answers, as numbers, and the bytes that it leaves.
-use mathlib.Core.Path.{sym, ap, _∙_}
+use mathlib.Core.Path.{ap, _∙_}
 use Rattle.interface.specs.Mounting.{mountsOf}
 use borrow.Author.Needs.{needs}
 use Rattle.hromulice.proofs.mounting.hromulice_add_mount.Statement.{statement}

@@ -1,5 +1,5 @@
 -- `hromulice_ask_mount`: what `ask` answers, as numbers.
-use mathlib.Core.Path.{sym, ap, _∙_}
+use mathlib.Core.Path.{ap, _∙_}
 use Rattle.interface.specs.Mounting.{mountOf}
 use borrow.Author.Needs.{needs}
 use Rattle.hromulice.proofs.mounting.hromulice_ask_mount.Statement.{statement}

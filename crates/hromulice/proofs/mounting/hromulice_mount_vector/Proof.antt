@@ -1,5 +1,5 @@
 -- `hromulice_mount_vector`: what `turn` answers, as numbers.
-use mathlib.Core.Path.{ap₂, sym, ap, _∙_}
+use mathlib.Core.Path.{ap₂, ap, _∙_}
 use lib.IntN.{ℤ}
 use mir.Facts.{toZ-ofZ}
 use Rattle.mounts.specs.Signs.{shift, vectorOn}

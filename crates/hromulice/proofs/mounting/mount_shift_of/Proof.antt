@@ -2,11 +2,10 @@
 use mathlib.Core.Path.{ap₂, _∙_, sym, ap}
 use lib.IntN.{ℤ}
 use mir.Facts.{toZ-ofZ}
-use borrow.Author.Needs.{sfits-of}
+use borrow.Author.Needs.{sfits-of, needs}
 use Rattle.mounts.specs.Signs.{shift}
 use Rattle.mounts.specs.declared.Turned.the-variants.{Vector}
 use Rattle.interface.specs.Mounting.{mountShiftOf}
-use borrow.Author.Needs.{needs}
 use Rattle.hromulice.proofs.mounting.mount_shift_of.Statement.{statement}
 use Rattle.hromulice.proofs.mounting.mount_shift_of.Tie as tie
 

@@ -1,5 +1,5 @@
 -- `add_answer`: the rules in their order.
-use mathlib.Core.Path.{_≡_, sym, _∙_}
+use mathlib.Core.Path.{sym, _∙_}
 use denote.Ref.{now}
 use Rattle.mounts.specs.Sheets.{sheet}
 use Rattle.mounts.proofs.AddLaws.{first-refused, side-refused, edition-refused, room-refused, addable-added, next-after, stored-sound}

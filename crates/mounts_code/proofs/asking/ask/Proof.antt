@@ -1,12 +1,10 @@
 -- `ask`: the fault of the stored sheets, or the sheet that was found.
 use denote.Ref.{now}
-use Prim.Native.Nat.{ℕ}
 use Rattle.mounts.specs.Editions.{newest}
 use Rattle.mounts.specs.Sheets.{sheetsIn}
 use mathlib.Core.Path.{sym, ap, _∙_}
 use Rattle.answers.specs.declared.Answer.{Answer}
-use Rattle.mounts.specs.Mounts.{storedFault, foundOrNone, unlessFault, asked}
-use Rattle.mounts.specs.declared.Newest.{Newest}
+use Rattle.mounts.specs.Mounts.{foundOrNone, unlessFault, asked}
 use borrow.Author.Needs.{needs}
 use Rattle.mounts_code.proofs.asking.ask.Statement.{statement}
 use Rattle.mounts_code.proofs.asking.ask.Tie as tie

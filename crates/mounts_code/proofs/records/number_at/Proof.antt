@@ -1,4 +1,4 @@
--- `number_at`: the number of fourSheets bytes that stand one behind the other.
+-- `number_at`: the number of four bytes that stand one behind the other.
 use mathlib.Core.Path.{_≡_, _∙_}
 use Prim.Native.Nat.{suc, _+_}
 use native.Mathlib.Omega.{arith}

@@ -2,7 +2,7 @@
 use denote.Ref.{now}
 use Rattle.mounts.proofs.SheetLaws.{sheet-there}
 use borrow.Author.Tests.{lt-ltb, le-ltb}
-use mathlib.Core.Path.{sym, _∙_}
+use mathlib.Core.Path.{_∙_}
 use borrow.Author.Needs.{needs}
 use Rattle.mounts_code.proofs.records.sheet_in.Statement.{statement}
 use Rattle.mounts_code.proofs.records.sheet_in.Tie as tie

@@ -1,12 +1,9 @@
 -- `turn`: x alone is turned, and on port alone.
-use mathlib.Core.Path.{ap₂}
+use mathlib.Core.Path.{ap₂, _∙_}
 use mir.Facts.{toZ-ofZ}
-use borrow.Author.Needs.{sfits-of}
-use Rattle.mounts.specs.Signs.{onPort}
-use mathlib.Core.Path.{_∙_}
+use borrow.Author.Needs.{sfits-of, needs}
+use Rattle.mounts.specs.Signs.{onPort, vectorOn}
 use borrow.Author.Tests.{lt-leb, le-leb, eq-eqb, ne-eqb}
-use Rattle.mounts.specs.Signs.{vectorOn}
-use borrow.Author.Needs.{needs}
 use Rattle.mounts_code.proofs.signs.turn.Statement.{statement}
 use Rattle.mounts_code.proofs.signs.turn.Tie as tie
 
