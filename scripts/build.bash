@@ -1,8 +1,9 @@
-# Builds a product of the crates, unless it is there and made from these very sources. ./check and tests/build read this file.
+# Builds a product of the crates, unless it is there and made from these very sources. scripts/command.bash and tests/build read this file.
 #
-# The products are target/bin/checker (program) and target/staticlib/libhromulice.a (library). Beside each stands its record,
-# PRODUCT.built: the hash of the sources, the kit, and the hash of the product itself. If any of the three differs, the product is not
-# used and is built again. Whoever reads this file sets `root`, the repository's folder, and `self`, the name before each sentence.
+# The products are target/bin/checker (program), target/bin/mount_sheets (mounts) and target/staticlib/libhromulice.a (library). Beside
+# each stands its record, PRODUCT.built: the hash of the sources, the kit, and the hash of the product itself. If any of the three
+# differs, the product is not used and is built again. Whoever reads this file sets `root`, the repository's folder, and `self`, the
+# name before each sentence.
 # shellcheck shell=bash disable=SC2154
 set -f -o pipefail
 trap : PIPE # nobody may be reading what is written: then writing fails, and nothing ends unseen
@@ -20,11 +21,12 @@ die() {
 }
 
 # Names the product that the functions below are about, and lists the crates that it is made from.
-choose() { # program | library
+choose() { # program | mounts | library
     case $1 in
         program) what='the checker' crate=checker product=target/bin/checker making=(check checker) ;;
+        mounts) what='the program for mount sheets' crate=mount_sheets product=target/bin/mount_sheets making=(check mount_sheets) ;;
         library) what='the library for C' crate=hromulice product=target/staticlib/libhromulice.a making=(staticlib hromulice) ;;
-        *) die "$1 is neither program nor library" ;;
+        *) die "$1 is none of program, mounts and library" ;;
     esac
     record=$root/$product.built
     log=$root/target/log/$crate.build
@@ -101,7 +103,7 @@ judge_product() {
     [[ ! -r $record ]] || mapfile -t built < "$record"
     if [[ ! -e $file && ! -e $record ]]; then why='it is not built yet'
     elif [[ ! -f $file || ! -r $file ]]; then why="$product is missing"
-    elif [[ $crate == checker && ! -x $file ]]; then why="$product may not be run"
+    elif [[ ${making[0]} == check && ! -x $file ]]; then why="$product may not be run"
     elif [[ ${#built[@]} -ne 3 ]]; then why="nothing says what $product was built from"
     elif [[ ${built[0]} != "sources $sources" ]]; then why='the sources changed since it was built'
     elif [[ -n $kit && ${built[1]} != "kit $kit" ]]; then why="it was built by another kit, ${built[1]#kit }"
@@ -111,7 +113,7 @@ judge_product() {
 }
 
 # Builds the product if it has to be, or ends with one sentence.
-ensure() { # program | library
+ensure() { # program | mounts | library
     choose "$1"
     judge_product
     [[ -n $why ]] || return 0
@@ -163,7 +165,7 @@ build() {
     sources=${before%%$'\n'*}
     refuse_links
     rm -f -- "$record" "$root/$product" || die "$root/$product cannot be removed"
-    [[ $crate != checker ]] || rm -f -- "$root/target/stamp/$crate"
+    [[ ${making[0]} != check ]] || rm -f -- "$root/target/stamp/$crate"
     if ! run_rt || [[ ! -f $root/$product ]]; then
         tail -n 20 -- "$log" >&2
         die "$what was not built from the sources as they are; all that rt said is in $log"
@@ -212,11 +214,21 @@ write_record() {
         die "$record cannot be written"
 }
 
+# Prints what the program does on the words, the data and the input that rt runs it on.
+run_stored() (
+    words=() input=/dev/null
+    cd "$root/crates/$crate/" || exit
+    [[ ! -f args ]] || mapfile -t words < args
+    [[ ! -f stdin ]] || input=$PWD/stdin
+    [[ ! -d data ]] || cd data || exit
+    exec "$root/$product" "${words[@]}" < "$input" 2>&1
+)
+
 # Records the program that rt has built, and builds nothing: rt has to find every crate unchanged since it was proved, and the program
 # to print what rt saw it print.
-record_built() {
+record_built() { # program | mounts
     local before
-    choose program
+    choose "$1"
     judge_product
     need_kit
     need_folder
@@ -224,11 +236,11 @@ record_built() {
     rm -f -- "$record"
     before=$(snapshot 2> /dev/null) || die "the sources in $root/crates cannot be read"
     sources=${before%%$'\n'*}
-    (cd "$root/" && unset RT_CUT && exec rt check checker) < /dev/null > "$log" 2>&1 || die "rt does not prove these sources: see $log"
+    (cd "$root/" && unset RT_CUT && exec rt "${making[@]}") < /dev/null > "$log" 2>&1 || die "rt does not prove these sources: see $log"
     [[ $(grep -c ' proved (unchanged since it was last proved)$' "$log") == "${#crates[@]}" ]] ||
         die "$product was not built from these sources, some of which rt had to prove again: see $log"
-    "$root/$product" < "$root/crates/checker/stdin" 2>&1 | cmp -s - "$root/crates/checker/stdout" ||
-        die "$product does not print what crates/checker/stdout has"
+    run_stored 2> /dev/null | cmp -s - "$root/crates/$crate/stdout" ||
+        die "$product does not print what crates/$crate/stdout has"
     unchanged_since "$before"
     write_record
     drop_lock

@@ -1,31 +1,6 @@
-"""The cases of ./check. A case has a copy of the repository, built, and stubs/rt in place of the kit's rt.
-
-command  what is tried, in bash, in the copy's folder
-status   what it has to end with
-out      what it has to print
-err      what it has to say: a regular expression for all of it
-before   what is done first. `says TEXT` has later builds make a program that prints TEXT; `no_reader` makes descriptor 4 a pipe that nobody
-         reads; `wait_for COMMAND` tries until it succeeds
-builds   how often rt is called to build something
-after    what has to hold at the end, in bash
-kit      fake; none: there is no rt; real: the kit's own rt, and the copy of the real case before, which has all that rt built
-"""
-import dataclasses
-
-
-@dataclasses.dataclass
-class Case:
-    name: str
-    command: str
-    status: int
-    out: str = ''
-    err: str = ''
-    before: str = ''
-    builds: int = 0
-    after: str = ''
-    kit: str = 'fake'
-    terminal: bool = False
-
+"""The cases of ./check (running.py). A case has a copy of the repository, built, and stubs/rt in place of the kit's rt."""
+import running
+from running import Case
 
 P1, BELOW = 'accept 384 384 0 0 0 0 0 0\n', 'refuse 10 50\n'
 # What other programs say.
@@ -34,13 +9,12 @@ USAGE = r'usage: \./check .*\n'
 UNWRITTEN = 'check: standard output cannot be written\n'
 CHANGED = 'the sources changed since it was built'
 ADD = 'echo "// changed" >> '
+SHEETS = 'the program for mount sheets'
 NO_RECORD = '[[ ! -e target/bin/checker.built ]]'
 
 
 def building(why, crates, self='check', what='the checker'):
-    """What is said during a build that ends well."""
-    lines = [rf'{self}: building {what} \({why}\)\. Every crate is proved first, which can take some minutes\n']
-    return ''.join(lines + [f'{self}: {i}/{len(crates)} {name}\n' for i, name in enumerate(crates, 1)])
+    return running.building(why, crates, self, what)
 
 
 def answers():
@@ -293,20 +267,60 @@ def recorded(crates):
     ]
 
 
-def products(crates, library):
-    made = building('it is not built yet', library, 'build', 'the library for C')
-    copied = ' && cmp target/staticlib/libhromulice.a "$FAKE_PRODUCT" && cmp target/bin/checker "$FAKE_PRODUCT"'
+def second_program(mounts):
+    """What ./mounts has of the build: its own program and record, and nothing of the checker's. `says` stands for its answer."""
+    vector = 'vector 1 2'
+    call = './mounts shift starboard 1 2'
+    here = f"says '{vector}'; tests/build mounts; "
+    new = "says 'vector 3 4'; "
+    stored = """says x; printf '#!/bin/sh\\n[ "$*" != "sheets list" ] || cat ../stdout\\n' > "$FAKE_PRODUCT"; """
+    log = 'see {repo}/target/log/mount_sheets.build\n'
+    no_record = '[[ ! -e target/bin/mount_sheets.built && -e target/bin/checker.built ]]'
+
+    def made(why):
+        return building(why, mounts, 'mounts', SHEETS)
+
     return [
-        Case('tests/build', 'tests/build && tests/build', 0, err=made, builds=1, after='true' + copied),
+        Case('mounts: nothing built', f'{call}; {call}', 0, 2 * (vector + '\n'), made('it is not built yet'), f"says '{vector}'", 1),
+        Case('mounts: built', call, 0, vector + '\n', before=here + new),
+        Case('mounts: its source changed', call, 0, 'vector 3 4\n', made(CHANGED), here + new + ADD + 'crates/mount_sheets/src/main.rt', 1),
+        Case('mounts: what it prints for rt changed', call, 0, 'vector 3 4\n', made(CHANGED), here + new + 'echo >> crates/mount_sheets/data/sheets', 1),
+        Case("mounts: a lower crate's source changed", call, 0, 'vector 3 4\n', made(CHANGED), here + new + ADD + 'crates/mounts_code/src/lib.rt', 1),
+        Case("mounts: the checker's source changed", call, 0, vector + '\n', before=here + new + ADD + 'crates/checker/src/main.rt'),
+        Case('mounts: its source changed, and the checker', './check samples/p1.batch', 0, P1, before=here + new + ADD + 'crates/mount_sheets/src/main.rt'),
+        Case('mounts: another program', call, 0, 'vector 3 4\n', made('target/bin/mount_sheets is not the file that was built'),
+             here + new + 'cp target/bin/checker target/bin/mount_sheets', 1),
+        Case('mounts: may not be run', call, 0, 'vector 3 4\n', made('target/bin/mount_sheets may not be run'), here + new + 'chmod a-x target/bin/mount_sheets', 1),
+        Case('mounts: not proved', call, 2, err='(?s).*mounts: the program for mount sheets was not built from the sources as they are; .*', builds=1,
+             before='export FAKE_DOES=fails', after=no_record),
+        Case('mounts: no rt', call, 2, err='mounts: the program for mount sheets has to be built .*: no rt that runs is on the PATH\n', kit='none'),
+        Case('mounts: --built', './mounts --built', 0, before=stored + 'tests/build mounts; rm target/bin/mount_sheets.built', builds=1,
+             after='[[ -e target/bin/mount_sheets.built ]]'),
+        Case('mounts: --built, sources changed', './mounts --built', 2, before=here + ADD + 'crates/mount_sheets/src/main.rt', builds=1, after=no_record,
+             err='mounts: target/bin/mount_sheets was not built from these sources, some of which rt had to prove again: ' + log),
+        Case('mounts: --built, another program', './mounts --built', 2, before=here, builds=1, after=no_record,
+             err='mounts: target/bin/mount_sheets does not print what crates/mount_sheets/stdout has\n'),
+        Case('mounts: --version', './mounts --version > v; s=$?; head -n 2 v; exit $s', 0, 'hromulice 9.8.7\nkit fake kit 1\n',
+             before=r"""sed -i 's/^\(#define HROMULICE_VERSION_TEXT\) .*/\1 "9.8.7"/' include/hromulice.h"""),
+    ]
+
+
+def products(crates, mounts, library):
+    made_mounts = building('it is not built yet', mounts, 'build', SHEETS)
+    made = made_mounts + building('it is not built yet', library, 'build', 'the library for C')
+    copied = 'for f in bin/checker bin/mount_sheets staticlib/libhromulice.a; do cmp target/$f "$FAKE_PRODUCT" && [[ -e target/$f.built ]] || exit; done'
+    return [
+        Case('tests/build', 'tests/build && tests/build', 0, err=made, builds=2, after=copied),
         Case('tests/build, nothing built', 'cd samples && ../tests/build && ../tests/build', 0, err=building('it is not built yet', crates, 'build') + made,
-             before='rm -r target', builds=2, after='true' + copied),
-        Case('tests/build program', 'tests/build program', 0, after='[[ ! -e target/staticlib/libhromulice.a ]]'),
+             before='rm -r target', builds=3, after=copied),
+        Case('tests/build program', 'tests/build program', 0, after='[[ ! -e target/staticlib/libhromulice.a && ! -e target/bin/mount_sheets ]]'),
+        Case('tests/build mounts', 'tests/build mounts && tests/build mounts', 0, err=made_mounts, builds=1, after='[[ ! -e target/staticlib/libhromulice.a ]]'),
         Case('tests/build library, sources changed', 'tests/build library', 0, err=building(CHANGED, library, 'build', 'the library for C'), builds=1,
              before='tests/build; ' + ADD + 'crates/memory/src/lib.rt'),
         Case('tests/build library, another file', 'tests/build library', 0, err='(?s)build: building .*is not the file that was built.*', builds=1,
              before='tests/build; echo >> target/staticlib/libhromulice.a', after='cmp target/staticlib/libhromulice.a "$FAKE_PRODUCT"'),
         Case('tests/build library, not proved', 'FAKE_DOES=fails tests/build library', 2, err='(?s).*build: the library for C was not built.*', builds=1),
-        Case('tests/build of something else', 'tests/build kettle', 2, err='build: kettle is neither program nor library\n'),
+        Case('tests/build of something else', 'tests/build kettle', 2, err='build: kettle is none of program, mounts and library\n'),
     ]
 
 
@@ -316,12 +330,12 @@ def runners(crates, library):
     made = building('it is not built yet', crates, 'build') + made_library
     lib = 'cargo: HROMULICE_LIB_DIR={}\n'
     nothing = 'rm -r target; PATH=$ROOM/compilers:$PATH; '
-    asked = '--seed {} --count {} --program REPO/target/bin/checker --runs {}\n'
+    asked = '--seed {} --count {} --program REPO/target/bin/checker --runs {} --books {}\n'
     return [
-        Case('tests/differential/run', 'cd samples && ../tests/differential/run', 0, asked.format(1, 100000, 4000), made + lib.format(''), nothing, 2),
-        Case('tests/differential/run with numbers', 'tests/differential/run 3 4 5', 0, asked.format(3, 4, 5), made + lib.format(''), nothing, 2),
+        Case('tests/differential/run', 'cd samples && ../tests/differential/run', 0, asked.format(1, 100000, 4000, 20000), made + lib.format(''), nothing, 2),
+        Case('tests/differential/run with numbers', 'tests/differential/run 3 4 5 6', 0, asked.format(3, 4, 5, 6), made + lib.format(''), nothing, 2),
         Case('tests/differential/run, library and program given', 'cd samples && HROMULICE_LIB_DIR=.. HROMULICE_CHECKER=given ../tests/differential/run 3 4 5', 0,
-             asked.format(3, 4, 5).replace('target/bin/checker', 'samples/given'), lib.format('{repo}'),
+             asked.format(3, 4, 5, 20000).replace('target/bin/checker', 'samples/given'), lib.format('{repo}'),
              nothing + 'touch libhromulice.a; cp "$FAKE_PRODUCT" samples/given'),
         Case('tests/differential/run, no such library', 'HROMULICE_LIB_DIR=samples tests/differential/run', 1,
              err='differential: HROMULICE_LIB_DIR: there is no samples/libhromulice.a\n', before=nothing),
@@ -359,8 +373,9 @@ def real(crates):
     ]
 
 
-def all_cases(crates, library, kit, version):
-    """crates and library: what the program and the library for C are made from, in order. kit: the one that is asked for, as a regular
-    expression. version: the one that the header has."""
+def all_cases(crates, mounts, library, kit, version):
+    """crates, mounts and library: what the program, the one for mount sheets and the library for C are made from, in order. kit: the one that
+    is asked for, as a regular expression. version: the one that the header has."""
     return [*answers(), *options(version), *descriptors(crates), *names(), *old_products(crates), *kept_products(), *failing_builds(crates), *wrong_lines(),
-            *several_at_once(crates), *without(kit), *recorded(crates), *products(crates, library), *runners(crates, library), *real(crates)]
+            *several_at_once(crates), *without(kit), *recorded(crates), *second_program(mounts), *products(crates, mounts, library),
+            *runners(crates, library), *real(crates)]

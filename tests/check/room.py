@@ -1,4 +1,4 @@
-"""The folder that the cases of ./check run in: copies of the repository, stand-ins, and the commands that ./check may use."""
+"""The folder that the cases of a script run in: copies of the repository, stand-ins, and the commands that the script may use."""
 import os
 import pathlib
 import shutil
@@ -37,7 +37,13 @@ def remove(folder):
 
 
 class Room:
-    """kit/ has the stand-in for rt, compilers/ those for cargo and clang, tools/ the other commands."""
+    """kit/ has the stand-in for rt, compilers/ those for cargo and clang, tools/ the other commands. The script and the program behind it
+    are those of ./check; another class may name others, and words that begin each case's text in bash (`prelude`)."""
+    script = 'check'
+    crate = 'checker'
+    first_call = ['./check', 'samples/p1.batch']
+    tools = TOOLS
+    prelude = ''
 
     def __init__(self, folder, script):
         self.folder = folder
@@ -45,19 +51,19 @@ class Room:
         self.used = True
         self.environment = {
             'ROOM': str(folder), 'HOME': str(folder), 'TMPDIR': str(folder), 'LC_ALL': 'C', 'FAKE_KIT': 'fake kit 1', 'FAKE_LOG': str(folder / 'log'),
-            'FAKE_GO': str(folder / 'go'), 'FAKE_ORDER': str(folder / 'order'), 'FAKE_PRODUCT': str(folder / 'checker'),
+            'FAKE_GO': str(folder / 'go'), 'FAKE_ORDER': str(folder / 'order'), 'FAKE_PRODUCT': str(folder / 'product'),
             **{name: os.environ[name] for name in ['RATTLE_HOME', 'RT_JOBS'] if name in os.environ},
             'NOBODY': 'setpriv --reuid=65534 --regid=65534 --clear-groups --no-new-privs' if os.geteuid() == 0 else '',
         }
         folder.chmod(0o755)
         for name in ['tools', 'kit', 'compilers', 'order']:
             (folder / name).mkdir()
-        for tool in TOOLS:
-            (folder / 'tools' / tool).symlink_to(shutil.which(tool) or sys.exit(f'tests/check/run: {tool} is missing'))
+        for tool in self.tools:
+            (folder / 'tools' / tool).symlink_to(shutil.which(tool) or sys.exit(f'{tool} is missing'))
         for name, place in [('rt', 'kit'), ('cargo', 'compilers'), ('clang', 'compilers')]:
             shutil.copy(root / 'tests' / 'check' / 'stubs' / name, folder / place / name)
-        shutil.copy(root / 'target' / 'bin' / 'checker', folder / 'checker')
-        for name in ['checker', 'hromulice']:
+        shutil.copy(root / 'target' / 'bin' / self.crate, folder / 'product')
+        for name in ['checker', 'mount_sheets', 'hromulice']:
             (folder / 'order' / name).write_text('\n'.join(made_from(name)) + '\n')
         self.copy_sources(folder / 'sources', script)
         copy(folder / 'sources', folder / 'built')
@@ -66,11 +72,11 @@ class Room:
 
     def copy_sources(self, target, script):
         target.mkdir()
-        for name in ['README.md', 'check', 'crates', 'crates.txt', 'include', 'samples', 'scripts', 'tests']:
+        for name in ['README.md', 'check', 'crates', 'crates.txt', 'include', 'mounts', 'samples', 'scripts', 'tests']:
             copy(root / name, target / name)
         if script:
-            shutil.copy(script, target / 'check')
-            (target / 'check').chmod(0o755)
+            shutil.copy(script, target / self.script)
+            (target / self.script).chmod(0o755)
         subprocess.run(['chmod', '-R', 'u+rwX,go+rX,go-w', '--', target], check=True)
 
     def make_thin(self, target):
@@ -90,7 +96,7 @@ class Room:
 
     def build_thin(self, target):
         environment = self.environment | {'PATH': f'{self.folder}/kit:{self.folder}/tools'}
-        subprocess.run(['./check', 'samples/p1.batch'], cwd=target, env=environment, capture_output=True)
+        subprocess.run(self.first_call, cwd=target, env=environment, capture_output=True)
 
     def prepare(self, case):
         """The copy of a case. Real cases share one, and a copy that no case has changed is used again."""
@@ -110,6 +116,10 @@ class Room:
             for name in made_from('checker')[:-1]:
                 copy(root / 'target' / 'rlib' / f'{name}.rlib', real / 'target' / 'rlib')
         return real
+
+    def place(self, repo):
+        """The folder in which a case's commands are given."""
+        return repo
 
     def path(self, case):
         paths = {'fake': f'{self.folder}/kit:{self.folder}/tools', 'none': f'{self.folder}/tools', 'real': os.environ['PATH']}
