@@ -1,6 +1,7 @@
 """The cases of ./mounts and of the program behind it. A case has a new folder, in which `book` has boat 7's editions 1 (starboard) and 2 (port)
 and boat 8's edition 1 (port), and `kept` is a copy of it. Unless a case says otherwise, book has to be the same afterwards."""
 import functools
+import re
 
 import running
 from running import Case as AnyCase
@@ -395,7 +396,14 @@ def comparing():
     ]
 
 
+def readme():
+    """The commands that README.md shows, and what it says that they print."""
+    blocks = re.search(r'^((?:    \./mounts .*\n)+)\nprint\n\n((?:    .*\n)+)', (running.root / 'README.md').read_text(), re.M)
+    commands, printed = (re.sub('^    ', '', block, flags=re.M) for block in blocks.groups())
+    return [Case("README.md's commands", commands.replace('./mounts', 'mounts'), 0, printed)]
+
+
 def all_cases(crates, version):
     """crates: what the program is made from, in order. version: the one that the header has."""
     return [*answers(), *shifts(), *sizes(), *damages(), *files(), *writes(), *several_at_once(), *descriptors(), *names(), *bad_words(),
-            *own_lines(), *comparing(), *wrong_lines(), *options(crates, version)]
+            *own_lines(), *comparing(), *wrong_lines(), *readme(), *options(crates, version)]

@@ -1,7 +1,7 @@
 -- What is claimed of asking and adding. What is quoted is document 02 (R-9).
 -- Proved: `bad-place`, `first-bad-given` (proofs/StoredLaws.antt), `editions-rise` (proofs/Rising.antt), `found-newest`, `none-found`, `found-none`, `ask-numbers`
 -- (proofs/Finding.antt), `add-numbers` (proofs/AddLaws.antt), `add-leaves`, `added-found` (proofs/Adding.antt) and `later-adding` (proofs/Later.antt).
-use Prim.Native.Nat.{ℕ, suc, _+_, _*_, _^_, _≤_, _<_}
+use Prim.Native.Nat.{ℕ, suc, _*_, _^_, _≤_, _<_}
 use mathlib.Core.Bool.{true, false}
 use mathlib.Core.List.{List, [], _∷_, _++_}
 use mathlib.Core.Logic.{_⊎_}
