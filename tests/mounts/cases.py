@@ -238,8 +238,9 @@ def several_at_once():
              f'boat 8 edition 1: port, {BECOMES}\n{FIRST}'),
         Adding('the script is ended while it adds', slow.replace('> one', '> one 2> /dev/null') + 'kill -KILL $p; wait $p 2> /dev/null; mounts book ask 7 3 > two & q=$!; ' + seen, 0,
                f'boat 7 edition 3: port, {BECOMES}\n'),
+        # the shell of the case may tell that its job was interrupted
         Adding('interrupted while it adds', 'set -m; ' + slow + 'kill -INT -- -$p; touch go; wait $p 2> /dev/null; set +m; mounts book list 7 | tail -n 1', 0,
-               'boat 7 edition 3 port\n'),
+               'boat 7 edition 3 port\n', r'(\[1\].*Interrupt.*\n)?'),
         Case('another that does not end', 'exec 9< .; flock -x 9; mounts book ask 7 1', 2,
              err='mounts: .*/work/ is locked by another ./mounts that has not ended: call again\n'),
         Case('no flock', 'mkdir tools; for f in "$ROOM"/tools/*; do [[ $f == */flock ]] || ln -s "$f" tools; done; PATH=$PWD/tools mounts book add 7 3 port', 2,
