@@ -163,6 +163,15 @@ accepted (Refused n p) = false
 pub no-accepted : {n p : ℕ} → Refused n p ≡ Accepted → ⊥
 no-accepted e = no (ap accepted e)
 
+-- A rule behind an answer: nothing is refused where neither was.
+pub unless-accepted : (a : Answer) (r : Rule) → unless a r ≡ Accepted → (a ≡ Accepted) × (r .holds ≡ true)
+unless-accepted Accepted r e = (refl, by (r .holds) e)
+  where
+    by : (b : Bool) → cond b Accepted (Refused (r .number) (r .place)) ≡ Accepted → b ≡ true
+    by true x = refl
+    by false x = absurd (no-accepted x)
+unless-accepted (Refused n p) r e = absurd (no-accepted e)
+
 pub all-hold : (rs : List Rule) → judged rs ≡ Accepted → Hold rs
 all-hold [] e = tt
 all-hold (r ∷ rs) e = let h = both-accepted (r .holds) (judged rs) e in (h .0, all-hold rs (h .1))

@@ -2,9 +2,9 @@
 use mathlib.Core.List.{List}
 use mathlib.Core.Path.{_≡_, refl, sym, ap, subst, _∙_}
 use mathlib.Core.Logic.{_⊎_, inl, inr}
-use Prim.Native.Nat.{ℕ, _^_, _<_}
+use Prim.Native.Nat.{ℕ, _^_, _≤_, _<_}
 use native.Mathlib.Omega.{arith}
-use lib.IntN.{ℤ, negℤ}
+use lib.IntN.{ℤ, pos, negℤ}
 use Rattle.answers.specs.Answers as answer
 use Rattle.answers.specs.declared.Answer.{Answer}
 use Rattle.answers.specs.declared.Answer.the-variants.{Accepted, Refused as Declined}
@@ -23,7 +23,7 @@ use Rattle.mounts.specs.declared.Turned.{Turned}
 use Rattle.mounts.specs.declared.Turned.the-variants as turning
 use Rattle.mounts.proofs.AddLaws.{add-numbers}
 use Rattle.mounts.proofs.SignLaws.{y-untouched, turn-numbers}
-use Rattle.mounts.proofs.Finding.{ask-numbers}
+use Rattle.mounts.proofs.Finding.{ask-numbers, found-side}
 use Rattle.mounts.proofs.Later.{later-adding}
 use Rattle.interface.specs.Mounting.{mountOf, mountsOf, mountShiftOf, MountAsked, MountAdded, MountTurned, MountStep, MountHas}
 use Rattle.interface.specs.declared.Mount.{Mount}
@@ -31,20 +31,20 @@ use Rattle.interface.specs.declared.Mounts.{Mounts}
 use Rattle.interface.specs.declared.MountShift.{MountShift}
 
 -- The fields of what is found, of what is added and of what is turned; and those of a refusal.
-pub found-fields : (s : Sheet) → (mountOf (Found s) .number ≡ 0) × (mountOf (Found s) .place ≡ 0) × (mountOf (Found s) .edition ≡ s .edition) × (mountOf (Found s) .side ≡ s .side)
-found-fields s = (refl, refl, refl, refl)
+pub found-fields : (s : Sheet) → mountOf (Found s) ≡ record { number = 0; place = 0; edition = s .edition; side = s .side }
+found-fields s = refl
 
-pub not-found-fields : (n p : ℕ) → (mountOf (Refused n p) .number ≡ n) × (mountOf (Refused n p) .place ≡ p)
-not-found-fields n p = (refl, refl)
+pub not-found-fields : (n p : ℕ) → mountOf (Refused n p) ≡ record { number = n; place = p; edition = 0; side = 0 }
+not-found-fields n p = refl
 
-pub added-fields : (a : Added) → (mountsOf a .number ≡ answer.numberOf (a .answer)) × (mountsOf a .place ≡ answer.placeOf (a .answer)) × (mountsOf a .count ≡ a .count)
-added-fields a = (refl, refl, refl)
+pub added-fields : (a : Added) → mountsOf a ≡ record { number = answer.numberOf (a .answer); place = answer.placeOf (a .answer); count = a .count }
+added-fields a = refl
 
-pub turned-fields : (v : Shift) → (mountShiftOf (turning.Vector v) .x ≡ v .x) × (mountShiftOf (turning.Vector v) .y ≡ v .y)
-turned-fields v = (refl, refl)
+pub turned-fields : (v : Shift) → mountShiftOf (turning.Vector v) ≡ record { number = 0; place = 0; x = v .x; y = v .y }
+turned-fields v = refl
 
-pub not-turned-fields : (n p : ℕ) → (mountShiftOf (turning.Refused n p) .number ≡ n) × (mountShiftOf (turning.Refused n p) .place ≡ p)
-not-turned-fields n p = (refl, refl)
+pub not-turned-fields : (n p : ℕ) → mountShiftOf (turning.Refused n p) ≡ record { number = n; place = p; x = pos 0; y = pos 0 }
+not-turned-fields n p = refl
 
 -- One exported call is one call.
 one-call : (b : Book) (c : Call) (r : Book) → MountStep b c r → AddStep b c r
@@ -99,7 +99,36 @@ mount-y-untouched side x y m e accepted = by (vectorOn side (shift x y)) refl
         zero (inl t) = let z = number in absurd (omega arith)
         zero (inr t) = let z = number in absurd (omega arith)
 
--- What include/hromulice.h says of the numbers that each function gives.
+-- What include/hromulice.h says of the numbers that each function gives: hromulice_ask_mount, ..
+pub ask-answers : (bytes : List ℕ) (count boat edition : ℕ) (m : Mount) → MountAsked bytes count boat edition m
+    → (m .number ≡ 0) ⊎ AskRefusal count (m .number) (m .place)
+ask-answers bytes count boat edition m e = by (asked bytes count boat edition) refl
+  where
+    by : (a : Asked) → asked bytes count boat edition ≡ a → (m .number ≡ 0) ⊎ AskRefusal count (m .number) (m .place)
+    by (Found s) f = inl (ap (λ (u : Mount). u .number) (e ∙ ap mountOf f))
+    by (Refused n p) f =
+        inr (subst (λ (u : Mount). AskRefusal count (u .number) (u .place)) (sym (e ∙ ap mountOf f)) (ask-numbers bytes count boat edition n p f))
+
+-- .. whose side is always 0 or 1, ..
+pub ask-side : (bytes : List ℕ) (count boat edition : ℕ) (m : Mount) → MountAsked bytes count boat edition m → m .side ≤ 1
+ask-side bytes count boat edition m e = by (asked bytes count boat edition) refl
+  where
+    by : (a : Asked) → asked bytes count boat edition ≡ a → m .side ≤ 1
+    by (Found s) f = subst (λ (u : Mount). u .side ≤ 1) (sym (e ∙ ap mountOf f)) (found-side bytes count boat edition s f)
+    by (Refused n p) f = subst (λ (u : Mount). u .side ≤ 1) (sym (e ∙ ap mountOf f)) (omega arith)
+
+-- .. hromulice_mount_vector ..
+pub turn-answers : (side : ℕ) (x y : ℤ) (m : MountShift) → MountTurned side x y m
+    → (m .number ≡ 0) ⊎ (((m .number ≡ 22) ⊎ (m .number ≡ 23)) × (m .place ≡ 0))
+turn-answers side x y m e = by (vectorOn side (shift x y)) refl
+  where
+    by : (t : Turned) → vectorOn side (shift x y) ≡ t → (m .number ≡ 0) ⊎ (((m .number ≡ 22) ⊎ (m .number ≡ 23)) × (m .place ≡ 0))
+    by (turning.Vector v) f = inl (ap (λ (u : MountShift). u .number) (e ∙ ap mountShiftOf f))
+    by (turning.Refused n p) f =
+        inr
+        (subst (λ (u : MountShift). ((u .number ≡ 22) ⊎ (u .number ≡ 23)) × (u .place ≡ 0)) (sym (e ∙ ap mountShiftOf f)) (turn-numbers side (shift x y) n p f))
+
+-- .. and hromulice_add_mount.
 pub add-answers : (before : List ℕ) (count boat edition side : ℕ) (m : Mounts) (after : List ℕ) → MountAdded before count boat edition side m after
     → (m .number ≡ 0) ⊎ AddRefusal count (m .number) (m .place)
 unfolding added

@@ -11,10 +11,10 @@ use lib.ListN.{length, take, drop}
 use lib.Seq.{sets, sets-eq, drop-drop}
 use Rattle.mounts.proofs.SheetLaws.{record-length}
 use Rattle.mounts.proofs.StoredLaws.{bad-place}
-use Rattle.answers.specs.Answers.{Rule, numberOf, placeOf, rule, unless}
+use Rattle.answers.specs.Answers.{numberOf, placeOf, rule, unless}
 use Rattle.answers.specs.declared.Answer.{Answer}
 use Rattle.answers.specs.declared.Answer.the-variants.{Accepted, Refused}
-use Rattle.answers.proofs.Judging.{no-accepted}
+use Rattle.answers.proofs.Judging.{no-accepted, unless-accepted}
 use Rattle.mounts.specs.Claims.{AddRefusal}
 use Rattle.mounts.specs.Editions.{newest, nextEdition, editionOf, highestEdition}
 use Rattle.mounts.specs.Mounts.{storedFault, firstBad, addAnswer, added, bytesAfter}
@@ -46,15 +46,6 @@ stored-sound bytes count e = by (ltb (capacity bytes) count) refl e
 
 pub sound-stored : (bytes : List ℕ) (count : ℕ) → Sound bytes count → storedFault bytes count ≡ Accepted
 sound-stored bytes count s = stored-judged bytes count (s .held) ∙ s .good
-
--- A rule behind an answer.
-pub unless-accepted : (a : Answer) (r : Rule) → unless a r ≡ Accepted → (a ≡ Accepted) × (r .holds ≡ true)
-unless-accepted Accepted r e = (refl, by (r .holds) e)
-  where
-    by : (b : Bool) → cond b Accepted (Refused (r .number) (r .place)) ≡ Accepted → b ≡ true
-    by true x = refl
-    by false x = absurd (no-accepted x)
-unless-accepted (Refused n p) r e = absurd (no-accepted e)
 
 -- What is added: the stored sheets are sound, and the side, the edition and the room are right.
 pub record Addable (bytes : List ℕ) (count : ℕ) (s : Sheet) : Type 0 where

@@ -1,23 +1,24 @@
 -- What adding leaves: one sheet more behind the others, which are judged as before; and what was added is found again.
 use mathlib.Core.Path.{_≡_, refl, sym, ap, ap₂, subst, _∙_}
 use mathlib.Core.Bool.{Bool, true, cond, _&&_}
-use mathlib.Core.List.{List, [], _∷_, _++_, append-assoc}
+use mathlib.Core.List.{List, [], _∷_, _++_}
 use Prim.Native.Nat.{ℕ, suc, _+_, _*_, _/_, _^_, _≤_, _<_}
 use native.Mathlib.Omega.{arith}
 use borrow.Author.Tests.{le-leb, eq-eqb}
 use lib.Dec.{eqb, leb}
 use lib.ListN.{length, take, drop}
-use lib.Seq.{sets-eq, length-sets, length-take-le, take-at, drop-at, drop-drop}
+use lib.Seq.{length-sets, length-take-le, take-at, drop-at, drop-drop}
 use Rattle.answers.specs.declared.Answer.the-variants.{Accepted, Refused}
 use Rattle.lists.proofs.Booleans.{both-true}
 use Rattle.mounts.specs.Claims.{AddLeaves}
 use Rattle.mounts.specs.Editions.{newest, nextEdition}
 use Rattle.mounts.specs.Mounts.{goodAfter, goodAt, storedFault, asked, addAnswer, added, bytesAfter}
 use Rattle.mounts.specs.Sheets.{sheetRecord, sheetIn, stored, sheetsIn}
+use Rattle.mounts.specs.declared.Added.{Added}
 use Rattle.mounts.specs.declared.Asked.the-variants.{Found}
 use Rattle.mounts.specs.declared.Newest.the-variants.{At}
 use Rattle.mounts.specs.declared.Sheet.{Sheet}
-use Rattle.mounts.proofs.AddLaws.{add-addable, fits-exactly, sound-stored}
+use Rattle.mounts.proofs.AddLaws.{add-addable, add-refused, add-accepted, fits-exactly, sound-stored}
 use Rattle.mounts.proofs.Agreeing.{Agree, same-sheets, same-judged}
 use Rattle.mounts.proofs.EditionLaws.{newest-next}
 use Rattle.mounts.proofs.Finding.{found-asked}
@@ -27,8 +28,9 @@ use Rattle.mounts.proofs.StoredLaws.{next-judged}
 -- A refusal leaves the number and every byte as they were.
 pub refused-leaves : (bytes : List ℕ) (count : ℕ) (s : Sheet) (n p : ℕ) → addAnswer bytes count s ≡ Refused n p
     → (bytesAfter bytes count s ≡ bytes) × (added bytes count s .count ≡ count)
-unfolding bytesAfter added
-refused-leaves bytes count s n p e = simp e (refl, refl)
+refused-leaves bytes count s n p e =
+    let same = add-refused bytes count s (addAnswer bytes count s) n p refl e in
+    (sym (same .1), sym (ap (λ (a : Added). a .count) (same .0)))
 
 -- The record of a sheet with one of the two sides and its boat's next edition is good.
 record-good : (before : List Sheet) (s : Sheet) → s .boat < 2 ^ 32 → s .edition < 2 ^ 32 → s .side ≤ 1 → s .edition ≡ nextEdition (s .boat) before
@@ -48,43 +50,41 @@ module _ (bytes : List ℕ) (count : ℕ) (s : Sheet) (e : addAnswer bytes count
   room : 16 * suc count ≤ length bytes
   room = fits-exactly bytes (suc count) (add-addable bytes count s e .room)
 
-  pub added-count : added bytes count s .count ≡ suc count
-  unfolding added
-  added-count = simp e
+  -- its bytes, and what stood there and behind
+  abbrev rest : List ℕ
+  rest = drop 16 (drop at bytes)
 
-  three : after ≡ take at bytes ++ (sheetRecord s ++ drop (at + length (sheetRecord s)) bytes)
-  unfolding bytesAfter
-  three =
-      let long = record-length s in
-      let l = room in
-      simp e (sets-eq (sheetRecord s) bytes at (omega arith) ∙ append-assoc (take at bytes) (sheetRecord s) (drop (at + length (sheetRecord s)) bytes))
+  done : (record { answer = Accepted; count = count + 1 } ≡ added bytes count s) × (take at bytes ++ (sheetRecord s ++ rest) ≡ after)
+  done = add-accepted bytes count s (sheetRecord s ++ rest) e refl
+
+  pub added-count : added bytes count s .count ≡ suc count
+  added-count = let one : count + 1 ≡ suc count = omega arith in sym (ap (λ (a : Added). a .count) (done .0)) ∙ one
 
   front : length (take at bytes) ≡ at
   front = let l = room in length-take-le at bytes (omega arith)
 
-  same-length : length after ≡ length bytes
-  unfolding bytesAfter
-  same-length = simp e (length-sets bytes at (sheetRecord s))
-
   before-it : take at after ≡ take at bytes
-  before-it = ap (take at) three ∙ take-at (take at bytes) (sheetRecord s ++ drop (at + length (sheetRecord s)) bytes) at front
+  before-it = ap (take at) (sym (done .1)) ∙ take-at (take at bytes) (sheetRecord s ++ rest) at front
 
-  behind : drop at after ≡ sheetRecord s ++ drop (at + length (sheetRecord s)) bytes
-  behind = ap (drop at) three ∙ drop-at (take at bytes) (sheetRecord s ++ drop (at + length (sheetRecord s)) bytes) at front
+  behind : drop at after ≡ sheetRecord s ++ rest
+  behind = ap (drop at) (sym (done .1)) ∙ drop-at (take at bytes) (sheetRecord s ++ rest) at front
 
   the-record : stored after count ≡ sheetRecord s
-  the-record = ap (take 16) behind ∙ take-at (sheetRecord s) (drop (at + length (sheetRecord s)) bytes) 16 (record-length s)
+  the-record = ap (take 16) behind ∙ take-at (sheetRecord s) rest 16 (record-length s)
 
   beyond-it : drop (16 * suc count) after ≡ drop (16 * suc count) bytes
   beyond-it =
-      let sum : 16 * suc count ≡ at + 16 = omega arith in
-      let long = record-length s in
-      let whole : at + length (sheetRecord s) ≡ 16 * suc count = omega arith in
-      ap (λ (i : ℕ). drop i after) sum
+      let sum : at + 16 ≡ 16 * suc count = omega arith in
+      ap (λ (i : ℕ). drop i after) (sym sum)
       ∙ sym (drop-drop 16 at after)
       ∙ ap (drop 16) behind
-      ∙ drop-at (sheetRecord s) (drop (at + length (sheetRecord s)) bytes) 16 (record-length s)
-      ∙ ap (λ (i : ℕ). drop i bytes) whole
+      ∙ drop-at (sheetRecord s) rest 16 (record-length s)
+      ∙ drop-drop 16 at bytes
+      ∙ ap (λ (i : ℕ). drop i bytes) sum
+
+  same-length : length after ≡ length bytes
+  unfolding bytesAfter
+  same-length = simp e (length-sets bytes at (sheetRecord s))
 
   pub add-leaves : AddLeaves bytes count s (bytesAfter bytes count s)
   add-leaves = record { same-length = same-length; before-it = before-it; the-record = the-record; beyond-it = beyond-it }

@@ -1,10 +1,10 @@
 -- In stored sheets none of which is bad the editions of a boat are 1, 2, 3 and so on.
-use mathlib.Core.Path.{_≡_, refl, sym, ap, subst, _∙_}
+use mathlib.Core.Path.{_≡_, refl, sym, ap, ap₂, subst, _∙_}
 use mathlib.Core.Bool.{Bool, true, false, cond, _&&_}
 use mathlib.Core.List.{List, [], _∷_, _++_, append-nil}
-use Prim.Native.Nat.{ℕ, zero, suc, _+_, _≤_, _<_}
+use Prim.Native.Nat.{ℕ, zero, suc, _+_, _*_, _≤_, _<_}
 use native.Mathlib.Omega.{arith}
-use borrow.Author.Tests.{leb-true, leb-false, eqb-true}
+use borrow.Author.Tests.{leb-true, leb-false, eqb-true, le-leb}
 use lib.Dec.{eqb, leb}
 use lib.ListN.{length}
 use Rattle.answers.specs.Answers.{rule}
@@ -13,14 +13,18 @@ use Rattle.lists.proofs.Booleans.{and-right}
 use Rattle.mounts.specs.Claims.{Rising}
 use Rattle.mounts.specs.Editions.{ofBoat, notAbove, latest, newest, editionOf, nextEdition, highestEdition}
 use Rattle.mounts.specs.Mounts.{goodAt, firstBad, storedFault}
+use Rattle.fields.specs.Bytes.{elements, Bytes}
 use Rattle.fields.specs.Parts.{valueAt}
+use Rattle.fields.proofs.PartLaws.{part-bytes, number-lt}
 use Rattle.mounts.specs.Layout.{sheetFillerPart}
 use Rattle.mounts.specs.Sheets.{stored, sheetAt, sheetsIn}
 use Rattle.mounts.specs.declared.Newest.{Newest}
 use Rattle.mounts.specs.declared.Newest.the-variants.{At, Nothing}
 use Rattle.mounts.specs.declared.Sheet.{Sheet}
-use Rattle.mounts.proofs.AddLaws.{unless-accepted, stored-sound}
+use Rattle.answers.proofs.Judging.{unless-accepted}
+use Rattle.mounts.proofs.AddLaws.{stored-sound}
 use Rattle.mounts.proofs.EditionLaws.{those-both}
+use Rattle.mounts.proofs.SheetLaws.{sheet-there}
 
 rising-next : (n : ℕ) (ss : List Sheet) (s : Sheet) → Rising n ss → s .edition ≡ n + length ss → Rising n (ss ++ s ∷ [])
 rising-next n [] s r e = (omega arith, tt)
@@ -114,5 +118,26 @@ kept-rises bytes boat (suc k) e =
     let g = good-both bytes k e in
     rising-on boat (sheetsIn k bytes) (sheetAt bytes k) (kept-rises bytes boat k (g .0)) (good-edition bytes k (g .1))
 
-pub editions-rise : (bytes : List ℕ) (count boat : ℕ) → storedFault bytes count ≡ Accepted → Rising 1 (notAbove highestEdition (ofBoat boat (sheetsIn count bytes)))
-editions-rise bytes count boat e = kept-rises bytes boat count (stored-sound bytes count e .good)
+-- Bytes hold no edition above the highest.
+kept-all : (bytes : List ℕ) → Bytes bytes → (boat k : ℕ) → kept boat (sheetsIn k bytes) ≡ ofBoat boat (sheetsIn k bytes)
+kept-all bytes h boat zero = refl
+kept-all bytes h boat (suc k) =
+    kept-both boat (sheetsIn k bytes) (s ∷ [])
+    ∙ ap₂ (λ (x y : List Sheet). x ++ y) (kept-all bytes h boat k) (by (eqb (s .boat) boat))
+    ∙ sym (those-both (λ t. eqb (t .boat) boat) (sheetsIn k bytes) (s ∷ []))
+  where
+    s : Sheet
+    s = sheetAt bytes k
+
+    held : leb (s .edition) highestEdition ≡ true
+    held =
+        let there = ap (λ (t : Sheet). t .edition) (sheet-there bytes k) in
+        let low = number-lt (elements bytes (16 * k + 4) 4) (part-bytes bytes h (16 * k + 4) 4) in
+        le-leb (s .edition) highestEdition (omega (arith, there, low))
+
+    by : (b : Bool) → notAbove highestEdition (cond b (s ∷ []) []) ≡ cond b (s ∷ []) []
+    by true = simp held
+    by false = refl
+
+pub editions-rise : (bytes : List ℕ) (count boat : ℕ) → Bytes bytes → storedFault bytes count ≡ Accepted → Rising 1 (ofBoat boat (sheetsIn count bytes))
+editions-rise bytes count boat h e = subst (Rising 1) (kept-all bytes h boat count) (kept-rises bytes boat count (stored-sound bytes count e .good))

@@ -2,7 +2,7 @@
 use mathlib.Core.Path.{_≡_, refl}
 use mathlib.Core.List.{[], _∷_}
 use Rattle.mounts.specs.Editions.{newest, nextEdition}
-use Rattle.mounts.specs.Examples.{askExamples, addExamples, turnExamples, givenAnswers, dueAnswers}
+use Rattle.mounts.specs.Examples.{askExamples, addExamples, turnExamples, readSheets, dueSheets, givenAnswers, dueAnswers}
 use Rattle.mounts.specs.Mounts.{goodAt, storedFault, asked, addAnswer, added, bytesAfter}
 use Rattle.mounts.specs.Sheets.{sheet, sheetRecord}
 use Rattle.mounts.specs.Signs.{vectorOn}
@@ -10,6 +10,11 @@ use Rattle.mounts.specs.Signs.{vectorOn}
 worked : givenAnswers ≡ dueAnswers
 unfolding givenAnswers dueAnswers askExamples addExamples turnExamples asked added bytesAfter addAnswer storedFault goodAt nextEdition newest sheetRecord vectorOn
 worked = refl
+
+-- one record by itself
+sheets-read : readSheets ≡ dueSheets
+unfolding readSheets dueSheets
+sheets-read = refl
 
 -- 32 bits do not hold what follows 4294967295.
 after-highest : nextEdition 7 (sheet 7 4294967295 0 ∷ []) ≡ 4294967296

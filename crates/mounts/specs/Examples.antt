@@ -6,11 +6,12 @@ use mathlib.Core.List.{List, [], _∷_, _++_, map}
 use lib.ListN.{set, take, replicate}
 use Rattle.answers.specs.declared.Answer.the-variants as answer
 use Rattle.mounts.specs.Mounts.{asked, added, bytesAfter}
-use Rattle.mounts.specs.Sheets.{sheet}
+use Rattle.mounts.specs.Sheets.{sheet, sheetOf}
 use Rattle.mounts.specs.Signs.{shift, vectorOn}
 use Rattle.mounts.specs.declared.Added.{Added}
 use Rattle.mounts.specs.declared.Asked.{Asked}
 use Rattle.mounts.specs.declared.Asked.the-variants.{Found, Refused}
+use Rattle.mounts.specs.declared.Sheet.{Sheet}
 use Rattle.mounts.specs.declared.Turned.{Turned}
 use Rattle.mounts.specs.declared.Turned.the-variants as turning
 
@@ -126,6 +127,13 @@ turnExamples =
     ∷ turn 2 lowest (pos 4) (turning.Refused 22 0)
     ∷ turn 4294967295 (pos 1) (pos 4) (turning.Refused 22 0)
     ∷ []
+
+-- A record, one of which a byte is missing, one with a byte more, and no byte; and their sheets.
+unfoldable pub readSheets : List Sheet
+readSheets = map sheetOf (wide ∷ take 15 wide ∷ (wide ++ 1 ∷ []) ∷ [] ∷ [])
+
+unfoldable pub dueSheets : List Sheet
+dueSheets = sheet 0x11223344 1 1 ∷ sheet 0 0 0 ∷ sheet 0x11223344 1 1 ∷ sheet 0 0 0 ∷ []
 
 -- What is answered to them, and what is due.
 pub record Answers : Type 0 where

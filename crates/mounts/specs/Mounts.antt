@@ -2,10 +2,10 @@
 -- To be believed: what asking and adding answer, and what the bytes hold afterwards.
 use Prim.Native.Nat.{ℕ, zero, suc, _*_}
 use mathlib.Core.Bool.{Bool, cond, _&&_}
-use mathlib.Core.List.{List}
+use mathlib.Core.List.{List, [], _∷_, foldl}
 use lib.Dec.{eqb, leb, ltb}
 use lib.Seq.{sets}
-use Rattle.answers.specs.Answers.{rule, unless}
+use Rattle.answers.specs.Answers.{Rule, rule, unless}
 use Rattle.answers.specs.declared.Answer.{Answer}
 use Rattle.answers.specs.declared.Answer.the-variants as answer
 use Rattle.fields.specs.Parts.{valueAt}
@@ -51,15 +51,15 @@ asked bytes count boat edition = unlessFault (storedFault bytes count) (foundOrN
 
 -- "adding another edition than the next (none follows 4294967295) gives 21, a side above 1 gives 22, no room gives 14, here at 0. The checks come as
 -- 20, 19, 22, 21, 14."
+abbrev pub addRules : List ℕ → ℕ → Sheet → List Rule
+addRules bytes count s =
+    rule 22 0 (leb (s .side) port)
+    ∷ rule 21 0 (eqb (s .edition) (nextEdition (s .boat) (sheetsIn count bytes)))
+    ∷ rule 14 0 (ltb count (capacity bytes))
+    ∷ []
+
 unfoldable pub addAnswer : List ℕ → ℕ → Sheet → Answer
-addAnswer bytes count s =
-    unless
-    (unless
-    (unless
-    (storedFault bytes count)
-    (rule 22 0 (leb (s .side) port)))
-    (rule 21 0 (eqb (s .edition) (nextEdition (s .boat) (sheetsIn count bytes)))))
-    (rule 14 0 (ltb count (capacity bytes)))
+addAnswer bytes count s = foldl unless (storedFault bytes count) (addRules bytes count s)
 
 -- "adding writes behind the last", one record more; a refusal leaves the number and every byte as they were.
 abbrev pub addedCount : Answer → ℕ → ℕ
