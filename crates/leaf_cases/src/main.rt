@@ -1,7 +1,7 @@
 // Runs the stored cases of the leaf crates and prints a line for each. A case is 24 bytes of standard input, little-endian:
 //   0 sort (0 fields of a word, else a block)
 //   fields: 2 hi, 3 lo, 4 word (4 bytes), 16 value (4)
-//   block: 2 first chroma row (2), 4 pitch (4), 8 W, 10 H, 12 X, 14 Y (2 each), 16 vector word (4), 20 and 21 f codes of x and y,
+//   block: 1 structure (1 top field, 2 bottom field, else frame), 2 first chroma row (2), 4 pitch (4), 8 W, 10 H, 12 X, 14 Y (2 each), 16 vector word (4), 20 and 21 f codes of x and y,
 //     22 the number of document 01's case, or 0
 // A block's line has its vector's word, `beyond` where the vector is beyond its f codes (rule 9), else `range`, and `outside`
 // where the block is not in the picture (rule 10), else `inside`, its end and its first byte. rust/reference writes the cases and the
@@ -12,6 +12,7 @@ use prediction::Block;
 use prediction::Extent;
 use prediction::Grid;
 use prediction::Position;
+use prediction::Structure;
 use prediction::Surface;
 use prediction_code::extents;
 
@@ -54,6 +55,14 @@ fn print_block(block: Block) {
     }
 }
 
+fn structure_of(number: u8) -> Structure {
+    match number {
+        1 => Structure::TopField,
+        2 => Structure::BottomField,
+        _ => Structure::Frame,
+    }
+}
+
 fn block_case(case: &[u8; 24]) {
     let chroma_row = fields_code::number16(case[2], case[3]);
     let pitch = fields_code::number32(case[4], case[5], case[6], case[7]);
@@ -61,6 +70,7 @@ fn block_case(case: &[u8; 24]) {
     let rows = fields_code::number16(case[10], case[11]);
     let column = fields_code::number16(case[12], case[13]);
     let row = fields_code::number16(case[14], case[15]);
+    let structure = structure_of(case[1]);
     print_label(case[22]);
     let vector = prediction_code::vector_of(fields_code::number32(
         case[16],
@@ -69,7 +79,7 @@ fn block_case(case: &[u8; 24]) {
         case[19],
     ));
     io::print_hex(STDOUT_FILENO, prediction_code::word_of(vector) as u64, 8);
-    if prediction_code::vector_in_range(vector, case[20], case[21]) {
+    if prediction_code::vector_in_range(structure, vector, case[20], case[21]) {
         io::write_all(STDOUT_FILENO, b" range ");
     } else {
         io::write_all(STDOUT_FILENO, b" beyond ");
@@ -77,7 +87,7 @@ fn block_case(case: &[u8; 24]) {
     let surface = Surface { pitch, chroma_row };
     let grid = Grid { columns, rows };
     let position = Position { column, row };
-    print_block(prediction_code::block_at(surface, grid, position, vector));
+    print_block(prediction_code::block_at(structure, surface, grid, position, vector));
 }
 
 // Runs the next case and answers whether there was one.

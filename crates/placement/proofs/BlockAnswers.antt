@@ -6,6 +6,7 @@ use Rattle.prediction.specs.declared.Block.{Block}
 use Rattle.prediction.specs.declared.Block.the-variants.{Outside, Inside}
 use Rattle.prediction.specs.declared.Grid.{Grid}
 use Rattle.prediction.specs.declared.Position.{Position}
+use Rattle.prediction.specs.declared.Structure.{Structure}
 use Rattle.prediction.specs.declared.Surface.{Surface}
 use Rattle.prediction.specs.declared.Vector.{Vector}
 use Rattle.prediction.proofs.BlockLaws.{inside-exactly}
@@ -20,18 +21,18 @@ block-ruled word Outside = refl
 block-ruled word (Inside e) = refl
 
 -- A block is accepted exactly where every luma sample lies in the picture, and else refused by 10 at its vector's word.
-pub block-accepted : (word : ℕ) (s : Surface) (g : Grid) (at : Position) (v : Vector)
-    → (blockAnswer word (blockAt s g at v) ≡ Accepted → InPicture g at v) × (InPicture g at v → blockAnswer word (blockAt s g at v) ≡ Accepted)
-block-accepted word s g at v = (by (blockAt s g at v) refl, λ h. ap (blockAnswer word) (inside-exactly s g at v .1 h .1))
+pub block-accepted : (word : ℕ) (k : Structure) (s : Surface) (g : Grid) (at : Position) (v : Vector)
+    → (blockAnswer word (blockAt k s g at v) ≡ Accepted → InPicture k g at v) × (InPicture k g at v → blockAnswer word (blockAt k s g at v) ≡ Accepted)
+block-accepted word k s g at v = (by (blockAt k s g at v) refl, λ h. ap (blockAnswer word) (inside-exactly k s g at v .1 h .1))
   where
-    by : (b : Block) → blockAt s g at v ≡ b → blockAnswer word b ≡ Accepted → InPicture g at v
+    by : (b : Block) → blockAt k s g at v ≡ b → blockAnswer word b ≡ Accepted → InPicture k g at v
     by Outside e h = absurd (no-accepted h)
-    by (Inside x) e h = inside-exactly s g at v .0 (x, e)
+    by (Inside x) e h = inside-exactly k s g at v .0 (x, e)
 
-pub block-refused : (word : ℕ) (s : Surface) (g : Grid) (at : Position) (v : Vector) → (InPicture g at v → ⊥)
-    → blockAnswer word (blockAt s g at v) ≡ Refused 10 word
-block-refused word s g at v outside = by (blockAt s g at v) refl
+pub block-refused : (word : ℕ) (k : Structure) (s : Surface) (g : Grid) (at : Position) (v : Vector) → (InPicture k g at v → ⊥)
+    → blockAnswer word (blockAt k s g at v) ≡ Refused 10 word
+block-refused word k s g at v outside = by (blockAt k s g at v) refl
   where
-    by : (b : Block) → blockAt s g at v ≡ b → blockAnswer word b ≡ Refused 10 word
+    by : (b : Block) → blockAt k s g at v ≡ b → blockAnswer word b ≡ Refused 10 word
     by Outside e = refl
-    by (Inside x) e = absurd (outside (inside-exactly s g at v .0 (x, e)))
+    by (Inside x) e = absurd (outside (inside-exactly k s g at v .0 (x, e)))

@@ -16,6 +16,8 @@ use Rattle.prediction.specs.declared.Surface.{Surface}
 use Rattle.prediction.specs.declared.Vector.{Vector}
 use Rattle.prediction.proofs.BlockLaws.{block-exact, own-inside}
 use Rattle.prediction.proofs.ExtentLaws.{empty-exact, join-exact}
+use Rattle.prediction.specs.declared.Structure.{Structure}
+use Rattle.prediction.specs.declared.Structure.the-variants.{Frame}
 use Rattle.answers.specs.Answers.{judged}
 use Rattle.answers.specs.declared.Answer.the-variants.{Accepted}
 use Rattle.answers.proofs.Judging.{rule-kept}
@@ -32,25 +34,25 @@ use Rattle.placement.specs.declared.Reference.the-variants.{Unused, At}
 use Rattle.placement.proofs.MacroblockLaws.{row-left}
 
 -- a block that lies inside
-inside-exact : (s : Surface) (g : Grid) (at : Position) (v : Vector) → 16 ≤ s .pitch → isInside (blockAt s g at v) ≡ true
-    → Exact (Occupies s at v) (extentIn (blockAt s g at v))
-inside-exact s g at v wide = by (blockAt s g at v) refl
+inside-exact : (k : Structure) (s : Surface) (g : Grid) (at : Position) (v : Vector) → 16 ≤ s .pitch → isInside (blockAt k s g at v) ≡ true
+    → Exact (Occupies k s at v) (extentIn (blockAt k s g at v))
+inside-exact k s g at v wide = by (blockAt k s g at v) refl
   where
-    by : (b : Block) → blockAt s g at v ≡ b → isInside b ≡ true → Exact (Occupies s at v) (extentIn b)
+    by : (b : Block) → blockAt k s g at v ≡ b → isInside b ≡ true → Exact (Occupies k s at v) (extentIn b)
     by Outside e h = absurd (no h)
-    by (Inside x) e h = block-exact s g at v x wide e
+    by (Inside x) e h = block-exact k s g at v x wide e
 
 -- a macroblock's own samples
 own-exact : (s : Surface) (g : Grid) (at : Position) → 16 ≤ s .pitch → at .column < g .columns → at .row < g .rows
-    → Exact (Occupies s at still) (extentIn (blockAt s g at still))
-own-exact s g at wide x y = let e = own-inside s g at x y in inside-exact s g at still wide (ap isInside (e .1))
+    → Exact (Occupies Frame s at still) (extentIn (blockAt Frame s g at still))
+own-exact s g at wide x y = let e = own-inside s g at x y in inside-exact Frame s g at still wide (ap isInside (e .1))
 
 -- the block that it is predicted from in one reference
 predicted-exact : (s : Surface) (g : Grid) (at : Position) (c : Codes) (r : Reference) → 16 ≤ s .pitch → predicted s g at c r .inside ≡ true
     → Exact (TouchedBy s at r) (predicted s g at c r .extent)
 unfolding predicted
 predicted-exact s g at c Unused wide h = empty-exact
-predicted-exact s g at c (At v) wide h = inside-exact s g at v wide h
+predicted-exact s g at c (At k v) wide h = inside-exact k s g at v wide h
 
 -- What is touched after a macroblock that is accepted: what was touched before, and the samples of its own blocks.
 pub next-exact : (p : Progress) (ws : List ℕ) → judged (macroblockRules p ws) ≡ Accepted
@@ -63,7 +65,7 @@ next-exact p ws accepted wide in-row b before = by b before
     s : Surface
     s = p .frame .surface
 
-    own : Exact (Occupies s (p .position) still) (extentIn (blockAt s (p .picture .grid) (p .position) still))
+    own : Exact (Occupies Frame s (p .position) still) (extentIn (blockAt Frame s (p .picture .grid) (p .position) still))
     own = own-exact s (p .picture .grid) (p .position) wide in-row (row-left p ws accepted)
 
     by : (b : Buffer) {Before : ℕ → Type 0} → Exact Before (extentOf b (p .extents))

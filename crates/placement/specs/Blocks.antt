@@ -14,6 +14,7 @@ use Rattle.prediction.specs.declared.Extent.{Extent}
 use Rattle.prediction.specs.declared.Grid.{Grid}
 use Rattle.prediction.specs.declared.Position.{Position}
 use Rattle.prediction.specs.declared.Surface.{Surface}
+use Rattle.prediction.specs.declared.Structure.the-variants.{Frame}
 use Rattle.macroblock.specs.declared.Case.{Case}
 use Rattle.macroblock.specs.declared.Case.the-variants.{Intra, Inter}
 use Rattle.macroblock.specs.declared.Prediction.the-variants.{Forward, Backward, Both}
@@ -28,15 +29,15 @@ use Rattle.placement.specs.declared.Reference.the-variants.{Unused, At}
 -- others."
 unfoldable pub forwardOf : Case → Reference
 forwardOf Intra = Unused
-forwardOf (Inter (Forward f)) = At f
+forwardOf (Inter (Forward f)) = At Frame f
 forwardOf (Inter (Backward b)) = Unused
-forwardOf (Inter (Both f b)) = At f
+forwardOf (Inter (Both f b)) = At Frame f
 
 unfoldable pub backwardOf : Case → Reference
 backwardOf Intra = Unused
 backwardOf (Inter (Forward f)) = Unused
-backwardOf (Inter (Backward b)) = At b
-backwardOf (Inter (Both f b)) = At b
+backwardOf (Inter (Backward b)) = At Frame b
+backwardOf (Inter (Both f b)) = At Frame b
 
 -- A block that lies in the picture, and what it touches.
 abbrev pub isInside : Block → Bool
@@ -58,14 +59,14 @@ predictedIn ranged b = record { «in_range» = ranged; inside = isInside b; exte
 -- The block that a macroblock at a position is predicted from in one reference, under that reference's f codes.
 unfoldable pub predicted : Surface → Grid → Position → Codes → Reference → Predicted
 predicted s g at c Unused = record { «in_range» = true; inside = true; extent = emptyExtent }
-predicted s g at c (At v) = predictedIn (vectorInRange v (c .x) (c .y)) (blockAt s g at v)
+predicted s g at c (At k v) = predictedIn (vectorInRange k v (c .x) (c .y)) (blockAt k s g at v)
 
 -- "Every macroblock, skipped ones too, touches its 16×16 luma and 8×8 chroma samples in buffers 0 and 1, and its predicted blocks
 -- in 2 (forward) and 3 (backward)."
 unfoldable pub blocksOf : Progress → Case → Blocks
 blocksOf p case =
     record {
-      own = extentIn (blockAt (p .frame .surface) (p .picture .grid) (p .position) still);
+      own = extentIn (blockAt Frame (p .frame .surface) (p .picture .grid) (p .position) still);
       forward = predicted (p .frame .surface) (p .picture .grid) (p .position) (p .picture .forward) (forwardOf case);
       backward = predicted (p .frame .surface) (p .picture .grid) (p .position) (p .picture .backward) (backwardOf case);
     }

@@ -1,11 +1,12 @@
 // The rules of a MACROBLOCK command in its picture, and what it touches.
 use prediction::Extent;
+use prediction::Structure;
 use prediction::Vector;
 
-// A reference picture as one macroblock uses it: not at all, or at a vector.
+// A reference picture as one macroblock uses it: not at all, or at a vector, in rows of a structure.
 pub enum Reference {
     Unused,
-    At(Vector),
+    At(Structure, Vector),
 }
 
 // Whether a predicted block keeps its rules, and what it touches of its reference.

@@ -9,6 +9,7 @@ use prediction::Block;
 use prediction::Extent;
 use prediction::Grid;
 use prediction::Position;
+use prediction::Structure;
 use prediction::Surface;
 use prediction::Vector;
 use prediction_code::extents;
@@ -16,6 +17,7 @@ use progress::Progress;
 ghost use mathlib.Core.Path.{_≡_};
 ghost use Rattle.prediction.specs.Blocks.{blockAt};
 ghost use Rattle.prediction.specs.Vectors.{still};
+ghost use Rattle.prediction.specs.declared.Structure.the-variants.{Frame};
 ghost use Rattle.placement.specs.Blocks.{forwardOf, backwardOf, extentIn, predictedIn, predicted, blocksOf};
 
 fn forward_of(case: Case) -> Reference
@@ -24,9 +26,9 @@ fn forward_of(case: Case) -> Reference
     match case {
         Case::Intra => Reference::Unused,
         Case::Inter(by) => match by {
-            Prediction::Forward(vector) => Reference::At(vector),
+            Prediction::Forward(vector) => Reference::At(Structure::Frame, vector),
             Prediction::Backward(_) => Reference::Unused,
-            Prediction::Both(vector, _) => Reference::At(vector),
+            Prediction::Both(vector, _) => Reference::At(Structure::Frame, vector),
         },
     }
 }
@@ -38,8 +40,8 @@ fn backward_of(case: Case) -> Reference
         Case::Intra => Reference::Unused,
         Case::Inter(by) => match by {
             Prediction::Forward(_) => Reference::Unused,
-            Prediction::Backward(vector) => Reference::At(vector),
-            Prediction::Both(_, vector) => Reference::At(vector),
+            Prediction::Backward(vector) => Reference::At(Structure::Frame, vector),
+            Prediction::Both(_, vector) => Reference::At(Structure::Frame, vector),
         },
     }
 }
@@ -77,11 +79,11 @@ fn predicted(
             inside: true,
             extent: extents::empty(),
         },
-        Reference::At(vector) => {
-            let ranged = prediction_code::vector_in_range(vector, codes.x, codes.y);
+        Reference::At(structure, vector) => {
+            let ranged = prediction_code::vector_in_range(structure, vector, codes.x, codes.y);
             predicted_in(
                 ranged,
-                prediction_code::block_at(surface, grid, position, vector),
+                prediction_code::block_at(structure, surface, grid, position, vector),
             )
         }
     }
@@ -89,9 +91,15 @@ fn predicted(
 
 // A macroblock's own samples.
 fn own_extent(surface: Surface, grid: Grid, position: Position) -> Extent
-    ensures { λ r. ⌜ r ≡ extentIn (blockAt surface grid position still) ⌝ }
+    ensures { λ r. ⌜ r ≡ extentIn (blockAt Frame surface grid position still) ⌝ }
 {
-    match prediction_code::block_at(surface, grid, position, Vector { x: 0, y: 0 }) {
+    match prediction_code::block_at(
+        Structure::Frame,
+        surface,
+        grid,
+        position,
+        Vector { x: 0, y: 0 },
+    ) {
         Block::Outside => extents::empty(),
         Block::Inside(extent) => extent,
     }

@@ -11,6 +11,7 @@ use Rattle.prediction.specs.Addresses.{address}
 use Rattle.prediction.specs.Extents.{emptyExtent, joined}
 use Rattle.prediction.specs.Blocks.{blockAt, blockExtent}
 use Rattle.prediction.specs.Lines.{lineOf, reachOf, floorOf}
+use Rattle.prediction.specs.declared.Structure.the-variants.{Frame}
 use Rattle.prediction.specs.declared.Vector.{Vector}
 use Rattle.prediction.specs.declared.Surface.{Surface}
 use Rattle.prediction.specs.declared.Line.{Line}
@@ -41,7 +42,7 @@ code9 : map (inRange 16 9) (pos 4095 ∷ pos 4096 ∷ minus 4096 ∷ minus 4097 
 code9 = refl
 
 -- each component has its own code
-codes : vectorInRange (vector (pos 31) (pos 15)) 2 1 ≡ true
+codes : vectorInRange Frame (vector (pos 31) (pos 15)) 2 1 ≡ true
 unfolding vectorInRange
 codes = refl
 
@@ -58,7 +59,7 @@ chroma-count = refl
 
 -- P8 to P12: W 2, H 1, pitch 128, C 16, the block at column 0
 abbrev answerTo : Vector → Block
-answerTo v = blockAt (record { pitch = 128; «chroma_row» = 16 }) (record { columns = 2; rows = 1 }) (record { column = 0; row = 0 }) v
+answerTo v = blockAt Frame (record { pitch = 128; «chroma_row» = 16 }) (record { columns = 2; rows = 1 }) (record { column = 0; row = 0 }) v
 
 abbrev inside : ℕ → ℕ → Block
 inside first end = Inside (between first end)
@@ -79,7 +80,7 @@ p8-to-p12 = refl
 -- the last macroblock of the largest picture: its last chroma row, 34166, is row 22 of the tiles from row 34144 on, and
 -- 34144·131072 + 31·4096 + 7·512 + 22·16 + 15 + 1 is past 2^32; its first luma row, 2784, is row 0 of its tiles, and its first luma
 -- column, 4080, is column 112 of the tile from column 3968 on: 2784·131072 + 31·4096 + 7·512
-largest : blockAt (record { pitch = 131072; «chroma_row» = 32767 }) (record { columns = 256; rows = 175 }) (record { column = 255; row = 174 }) (vector (pos 0) (pos 0)) ≡ inside 365035008 4475453296
+largest : blockAt Frame (record { pitch = 131072; «chroma_row» = 32767 }) (record { columns = 256; rows = 175 }) (record { column = 255; row = 174 }) (vector (pos 0) (pos 0)) ≡ inside 365035008 4475453296
 unfolding blockAt blockExtent joined address
 largest = refl
 
@@ -87,7 +88,7 @@ largest = refl
 abbrev line : ℕ → ℕ → ℕ → Line
 line low span last = record { low = low; span = span; last = last }
 
-lines : map (lineOf 2) (0 ∷ 1 ∷ 9 ∷ 12 ∷ 255 ∷ []) ≡ line 32752 31 1 ∷ line 32752 31 1 ∷ line 28672 8191 1 ∷ line 0 65535 1 ∷ line 0 65535 1 ∷ []
+lines : map (lineOf 16 2) (0 ∷ 1 ∷ 9 ∷ 12 ∷ 255 ∷ []) ≡ line 32752 31 1 ∷ line 32752 31 1 ∷ line 28672 8191 1 ∷ line 0 65535 1 ∷ line 0 65535 1 ∷ []
 unfolding lineOf
 lines = refl
 
@@ -96,7 +97,7 @@ lines = refl
 abbrev surface : ℕ → ℕ → Surface
 surface pitch row = record { pitch = pitch; «chroma_row» = row }
 
-chroma-begins : blockAt (surface 128 0) (record { columns = 2; rows = 2 }) (record { column = 1; row = 1 }) (vector (pos 0) (pos 0)) ≡ inside 640 1024
+chroma-begins : blockAt Frame (surface 128 0) (record { columns = 2; rows = 2 }) (record { column = 1; row = 1 }) (vector (pos 0) (pos 0)) ≡ inside 640 1024
 unfolding blockAt blockExtent joined address
 chroma-begins = refl
 
@@ -108,7 +109,7 @@ joins = refl
 
 -- the words of P8 to P12: their answer, and nothing from before the picture
 abbrev reach : ℕ → Extent
-reach w = reachOf (surface 128 16) (record { column = 0; row = 0 }) w
+reach w = reachOf Frame (surface 128 16) (record { column = 0; row = 0 }) w
 
 reaches : map reach (0x00000000 ∷ 0x00000001 ∷ 0x00000002 ∷ 0x00000020 ∷ 0x0000ffff ∷ [])
     ≡ between 0 384 ∷ between 0 753 ∷ between 1 882 ∷ between 512 896 ∷ between 0 0 ∷ []
@@ -118,9 +119,9 @@ reaches = refl
 -- f code 4 goes 128 half samples up and to the left: blocks of the first five rows of macroblocks can begin in row 0, those of the sixth in row 16
 -- and those of the seventh in row 32, the first of the next row of tiles, or in chroma's first row if that is above; and likewise by columns,
 -- where column 16 is in the next strip
-floors : map (λ (row : ℕ). floorOf (surface 128 112) 4 32640 row 32640) (0 ∷ 4 ∷ 5 ∷ 6 ∷ [])
-    ++ map (λ (column : ℕ). floorOf (surface 128 112) column 32640 5 32640) (5 ∷ 6 ∷ [])
-    ++ (floorOf (surface 128 20) 4 32640 6 32640 ∷ floorOf (surface 15 112) 4 32640 6 32640 ∷ [])
+floors : map (λ (row : ℕ). floorOf Frame (surface 128 112) 4 32640 row 32640) (0 ∷ 4 ∷ 5 ∷ 6 ∷ [])
+    ++ map (λ (column : ℕ). floorOf Frame (surface 128 112) column 32640 5 32640) (5 ∷ 6 ∷ [])
+    ++ (floorOf Frame (surface 128 20) 4 32640 6 32640 ∷ floorOf Frame (surface 15 112) 4 32640 6 32640 ∷ [])
     ≡ 0 ∷ 0 ∷ 256 ∷ 4096 ∷ 768 ∷ 1280 ∷ 320 ∷ 0 ∷ []
 unfolding floorOf address
 floors = refl

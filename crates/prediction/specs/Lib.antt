@@ -1,7 +1,8 @@
 pub mod Vectors
+pub mod Addresses
+pub mod Structures
 pub mod Ranges
 pub mod Spans
-pub mod Addresses
 pub mod Extents
 pub mod Blocks
 pub mod Lines

@@ -1,6 +1,13 @@
 // Motion vectors, the samples they predict from, and the bytes those samples stand at. No other crate speaks of half samples,
 // chroma halving or byte addresses.
 
+// What a block's rows are rows of: the frame, or one of its two fields, each every second row of the frame (MPEG-2's picture structure).
+pub enum Structure {
+    Frame,
+    TopField,
+    BottomField,
+}
+
 // A motion vector in half samples, x to the right and y down.
 pub struct Vector {
     pub x: i16,

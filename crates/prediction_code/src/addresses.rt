@@ -5,7 +5,7 @@ ghost use Prim.Native.Nat.{_<_};
 ghost use Rattle.prediction.specs.Addresses.{address};
 
 pub(crate) fn address(pitch: u32, column: u32, row: u32) -> u64
-    requires { ⌜ (column < 2097152) × (row < 2097152) ⌝ }
+    requires { ⌜ (column < 2097152) × (row < 4194304) ⌝ }
     ensures { λ r. ⌜ (r ≡ address pitch column row) × (r < 9223372036854775808) ⌝ }
 {
     let strip = column / 16 * 512 + row % 32 * 16 + column % 16;

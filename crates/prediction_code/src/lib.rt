@@ -6,6 +6,7 @@ pub mod extents;
 mod lines;
 mod ranges;
 mod spans;
+mod structures;
 mod vectors;
 
 pub use blocks::block_at;

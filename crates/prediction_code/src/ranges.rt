@@ -1,5 +1,7 @@
 // The range of a vector's components under the picture's f codes.
 use crate::spans;
+use crate::structures::luma_rows;
+use prediction::Structure;
 use prediction::Vector;
 ghost use mathlib.Core.Path.{_≡_};
 ghost use Prim.Native.Nat.{_-_, _<_};
@@ -33,13 +35,13 @@ fn in_range(size: u8, code: u8, b: u32) -> bool
 }
 
 // Whether both components of a vector lie in the ranges of their codes.
-pub fn vector_in_range(vector: Vector, x_code: u8, y_code: u8) -> bool
-    ensures { λ r. ⌜ r ≡ vectorInRange vector «x_code» «y_code» ⌝ }
+pub fn vector_in_range(structure: Structure, vector: Vector, x_code: u8, y_code: u8) -> bool
+    ensures { λ r. ⌜ r ≡ vectorInRange structure vector «x_code» «y_code» ⌝ }
 {
     let x = vector.x;
     let y = vector.y;
     if !in_range(16, x_code, spans::biased(x)) {
         return false;
     }
-    in_range(16, y_code, spans::biased(y))
+    in_range(luma_rows(structure), y_code, spans::biased(y))
 }

@@ -16,6 +16,7 @@ use Rattle.prediction.specs.Lines.{lineOf}
 use Rattle.prediction.specs.declared.Extent.{Extent}
 use Rattle.prediction.proofs.ExtentLaws.{between, join-assoc}
 use Rattle.prediction.proofs.LineLaws.{own-along}
+use Rattle.prediction.specs.declared.Structure.the-variants as structure
 use Rattle.headers.specs.Headers.{macroblockHeader}
 use Rattle.headers.specs.Words.{wordAt}
 use Rattle.answers.specs.Answers.{judged}
@@ -212,10 +213,10 @@ module _ (p : Progress) (ws : List ℕ) (column due was at f b : ℕ) (row : Ope
               forward-end = comes .forward-end ∙ ap (λ (x : Extent). x .end) forward;
               backward-end = comes .backward-end ∙ ap (λ (x : Extent). x .end) backward;
               forward-fit =
-                  fit-more 0x100 5 (p .frame .surface) (p .position) ws (lineOf (p .picture .grid .columns) (p .picture .forward .x)) (lineOf (p .picture .grid .rows) (p .picture .forward .y)) (g .k) (g .seen .forward-fit)
+                  fit-more 0x100 5 (p .frame .surface) (p .position) ws (lineOf 16 (p .picture .grid .columns) (p .picture .forward .x)) (lineOf 16 (p .picture .grid .rows) (p .picture .forward .y)) (g .k) (g .seen .forward-fit)
                   (subst₂ (λ (x : List ℕ) (y : ℕ). usesVector 0x100 (wordAt x 1) ≡ true → ForwardFits p y (wordAt x 5)) there (g .column-is) (comes .forward-fits));
               backward-fit =
-                  fit-more 0x200 6 (p .frame .surface) (p .position) ws (lineOf (p .picture .grid .columns) (p .picture .backward .x)) (lineOf (p .picture .grid .rows) (p .picture .backward .y)) (g .k) (g .seen .backward-fit)
+                  fit-more 0x200 6 (p .frame .surface) (p .position) ws (lineOf 16 (p .picture .grid .columns) (p .picture .backward .x)) (lineOf 16 (p .picture .grid .rows) (p .picture .backward .y)) (g .k) (g .seen .backward-fit)
                   (subst₂ (λ (x : List ℕ) (y : ℕ). usesVector 0x200 (wordAt x 1) ≡ true → BackwardFits p y (wordAt x 6)) there (g .column-is) (comes .backward-fits));
             };
       }

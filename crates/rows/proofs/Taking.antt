@@ -18,6 +18,7 @@ use Rattle.prediction.specs.declared.Extent.{Extent}
 use Rattle.prediction.specs.declared.Position.{Position}
 use Rattle.prediction.proofs.LineLaws.{in-lines, still-reach}
 use Rattle.prediction.proofs.ExtentLaws.{empty-end, join-end, join-empty}
+use Rattle.prediction.specs.declared.Structure.the-variants as structure
 use Rattle.fields.specs.Word.{withBits}
 use Rattle.headers.specs.Words.{wordAt}
 use Rattle.macroblock.specs.Cases.{motion, motionOf, caseOf, vectorWords}
@@ -54,21 +55,21 @@ same-progress a b c d g h = cc
 
 -- A vector that keeps its lines: its block in range and inside, and what it touches.
 pub record Fits (q : Progress) (codes : Codes) (w : ℕ) (e : Extent) : Type 0 where
-  pub range : vectorInRange (vectorOf w) (codes .x) (codes .y) ≡ true
-  pub block : blockAt (q .frame .surface) (q .picture .grid) (q .position) (vectorOf w) ≡ Inside e
+  pub range : vectorInRange structure.Frame (vectorOf w) (codes .x) (codes .y) ≡ true
+  pub block : blockAt structure.Frame (q .frame .surface) (q .picture .grid) (q .position) (vectorOf w) ≡ Inside e
 
 fits : (p q : Progress) (column w : ℕ) (codes : Codes) → column < p .picture .grid .columns → p .position .row < p .picture .grid .rows
     → q .frame ≡ p .frame → q .picture ≡ p .picture → q .position ≡ placeIn p column
-    → vectorInLines (lineOf (p .picture .grid .columns) (codes .x)) (lineOf (p .picture .grid .rows) (codes .y)) column (p .position .row) w ≡ true
+    → vectorInLines structure.Frame (lineOf 16 (p .picture .grid .columns) (codes .x)) (lineOf 16 (p .picture .grid .rows) (codes .y)) column (p .position .row) w ≡ true
     → Fits q codes w (reachIn p column w)
 fits p q column w codes hc hr ef ep at e =
-    let two = in-lines (p .frame .surface) (p .picture .grid) (placeIn p column) (codes .x) (codes .y) w (omega arith) (omega arith) e in
+    let two = in-lines structure.Frame (p .frame .surface) (p .picture .grid) (placeIn p column) (codes .x) (codes .y) w (omega arith) (omega arith) e in
     record {
       range = two .0;
       block =
-          ap (λ (x : Frame). blockAt (x .surface) (q .picture .grid) (q .position) (vectorOf w)) ef
-          ∙ ap (λ (x : Picture). blockAt (p .frame .surface) (x .grid) (q .position) (vectorOf w)) ep
-          ∙ ap (λ (x : Position). blockAt (p .frame .surface) (p .picture .grid) x (vectorOf w)) at
+          ap (λ (x : Frame). blockAt structure.Frame (x .surface) (q .picture .grid) (q .position) (vectorOf w)) ef
+          ∙ ap (λ (x : Picture). blockAt structure.Frame (p .frame .surface) (x .grid) (q .position) (vectorOf w)) ep
+          ∙ ap (λ (x : Position). blockAt structure.Frame (p .frame .surface) (p .picture .grid) x (vectorOf w)) at
           ∙ two .1;
     }
 
@@ -269,11 +270,11 @@ module _ (p q : Progress) (column due : ℕ) (f b : Extent) (before ws : List �
           (x .forward-is ∙ nothing-more (f .end)) (x .backward-is ∙ nothing-more (b .end)) (λ u. absurd (unused 0x100 0x3a00 type refl u)) (λ u. absurd (unused 0x200 0x3a00 type refl u))
       by (inr (k, x)) = inter k x
 
-  own-is : extentIn (blockAt (q .frame .surface) (q .picture .grid) (q .position) still) ≡ reachIn p column 0
+  own-is : extentIn (blockAt structure.Frame (q .frame .surface) (q .picture .grid) (q .position) still) ≡ reachIn p column 0
   own-is =
-      ap (λ (x : Frame). extentIn (blockAt (x .surface) (q .picture .grid) (q .position) still)) (s .same-frame)
-      ∙ ap (λ (x : Picture). extentIn (blockAt (p .frame .surface) (x .grid) (q .position) still)) (s .same-picture)
-      ∙ ap (λ (x : Position). extentIn (blockAt (p .frame .surface) (p .picture .grid) x still)) (s .here)
+      ap (λ (x : Frame). extentIn (blockAt structure.Frame (x .surface) (q .picture .grid) (q .position) still)) (s .same-frame)
+      ∙ ap (λ (x : Picture). extentIn (blockAt structure.Frame (p .frame .surface) (x .grid) (q .position) still)) (s .same-picture)
+      ∙ ap (λ (x : Position). extentIn (blockAt structure.Frame (p .frame .surface) (p .picture .grid) x still)) (s .here)
       ∙ ap extentIn (still-reach (p .frame .surface) (p .picture .grid) (placeIn p column) (s .in-columns) (s .in-rows))
 
   -- The progress after it.

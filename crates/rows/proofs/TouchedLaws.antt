@@ -18,6 +18,7 @@ use Rattle.prediction.specs.declared.Position.{Position}
 use Rattle.prediction.specs.declared.Surface.{Surface}
 use Rattle.prediction.proofs.ExtentLaws.{between, join-left, join-both, join-end, join-nothing, join-first, join-empty}
 use Rattle.prediction.proofs.LineLaws.{above-floor, first-fits}
+use Rattle.prediction.specs.declared.Structure.the-variants as structure
 use Rattle.rows.specs.Touching.{commandAt, usesVector, reachAt, touchedBy, touchedAfter, VectorsFit, AllTouch, lowestOf}
 
 module _ (e r : Extent) where
@@ -65,17 +66,17 @@ module _ (alone word : ℕ) (s : Surface) (at : Position) (ws : List ℕ) where
       after-next k e ∙ ap (λ (x : Bool). joined (After k e) (cond x (reachAt alone word s at ws k) emptyExtent)) u ∙ join-empty (After k e)
 
   pub fit-more : (x y : Line) (k : ℕ) → VectorsFit alone word s at ws x y k
-      → (usesVector alone (wordAt (commandAt ws k) 1) ≡ true → vectorInLines x y (at .column + k) (at .row) (wordAt (commandAt ws k) word) ≡ true)
+      → (usesVector alone (wordAt (commandAt ws k) 1) ≡ true → vectorInLines structure.Frame x y (at .column + k) (at .row) (wordAt (commandAt ws k) word) ≡ true)
       → VectorsFit alone word s at ws x y (k + 1)
   fit-more x y k fit here i h = by (eq-or-lt-of-le {n = i} {m = k} (omega arith))
     where
-      by : (i ≡ k) ⊎ (i < k) → usesVector alone (wordAt (commandAt ws i) 1) ≡ true → vectorInLines x y (at .column + i) (at .row) (wordAt (commandAt ws i) word) ≡ true
+      by : (i ≡ k) ⊎ (i < k) → usesVector alone (wordAt (commandAt ws i) 1) ≡ true → vectorInLines structure.Frame x y (at .column + i) (at .row) (wordAt (commandAt ws i) word) ≡ true
       by (inl same) =
-          subst (λ (n : ℕ). usesVector alone (wordAt (commandAt ws n) 1) ≡ true → vectorInLines x y (at .column + n) (at .row) (wordAt (commandAt ws n) word) ≡ true) (sym same) here
+          subst (λ (n : ℕ). usesVector alone (wordAt (commandAt ws n) 1) ≡ true → vectorInLines structure.Frame x y (at .column + n) (at .row) (wordAt (commandAt ws n) word) ≡ true) (sym same) here
       by (inr l) = fit i l
 
   pub fit-touches : (x y : Line) (n : ℕ) → VectorsFit alone word s at ws x y n → AllTouch alone word s at ws n
-  fit-touches x y n fit k h u = above-floor s (record { column = at .column + k; row = at .row }) (at .column + k) x y (wordAt (commandAt ws k) word) (omega arith) (fit k h u) .1
+  fit-touches x y n fit k h u = above-floor structure.Frame s (record { column = at .column + k; row = at .row }) (at .column + k) x y (wordAt (commandAt ws k) word) (omega arith) (fit k h u) .1
 
   -- Where nothing is touched in the end, nothing has changed.
   nothing-changed : (k : ℕ) (e : Extent) → After k e .end ≡ 0 → After k e ≡ e
@@ -108,24 +109,24 @@ module _ (alone word : ℕ) (s : Surface) (at : Position) (ws : List ℕ) where
   -- As the second look goes: over the words of the whole row, by column, first byte, word 1 and the vector's word.
   pub look-on : (n : ℕ) (e : Extent) → AllTouch alone word s at ws n → (k : ℕ) → k < n → word < 9 → s .pitch < 2 ^ 32 → at .column + k < 2 ^ 16 → at .row < 2 ^ 16
       → (column first one vector : ℕ) → column ≡ at .column + k → first ≡ lowestOf (After k e) → one ≡ wordAt ws (9 * k + 1) → vector ≡ wordAt ws (9 * k + word)
-      → cond (usesVector alone one) (min first (reachOf s (record { column = column; row = at .row }) vector .first)) first ≡ lowestOf (After (k + 1) e)
+      → cond (usesVector alone one) (min first (reachOf structure.Frame s (record { column = column; row = at .row }) vector .first)) first ≡ lowestOf (After (k + 1) e)
   look-on n e touch k h hw hp hc hr column first one vector ec ef eo ev =
-      ap₂ (λ (x y : ℕ). cond (usesVector alone x) (min first (reachOf s (record { column = column; row = at .row }) y .first)) first) (eo ∙ sym (there 1 (omega arith))) (ev ∙ sym (there word hw))
-      ∙ ap₂ (λ (x y : ℕ). cond (usesVector alone (wordAt (commandAt ws k) 1)) (min x (reachOf s (record { column = y; row = at .row }) (wordAt (commandAt ws k) word) .first)) x) ef ec
-      ∙ lowest-next n e touch k h (first-fits s (record { column = at .column + k; row = at .row }) (wordAt (commandAt ws k) word) hp hc hr)
+      ap₂ (λ (x y : ℕ). cond (usesVector alone x) (min first (reachOf structure.Frame s (record { column = column; row = at .row }) y .first)) first) (eo ∙ sym (there 1 (omega arith))) (ev ∙ sym (there word hw))
+      ∙ ap₂ (λ (x y : ℕ). cond (usesVector alone (wordAt (commandAt ws k) 1)) (min x (reachOf structure.Frame s (record { column = y; row = at .row }) (wordAt (commandAt ws k) word) .first)) x) ef ec
+      ∙ lowest-next n e touch k h (first-fits structure.Frame s (record { column = at .column + k; row = at .row }) (wordAt (commandAt ws k) word) hp hc hr)
     where
       there : (i : ℕ) → i < 9 → wordAt (commandAt ws k) i ≡ wordAt ws (9 * k + i)
       there i h = getD-take 9 (drop (9 * k) ws) i 0 h ∙ getD-drop (9 * k) ws i 0
 
   -- A first byte that is no higher than the floor of the row from the k-th command on stays.
   module _ (x y : Line) (n : ℕ) (e : Extent) (fit : VectorsFit alone word s at ws x y n) (k : ℕ)
-      (some : 0 < touchedAfter alone word s at ws k e .end) (low : touchedAfter alone word s at ws k e .first ≤ floorOf s (at .column + k) (x .low) (at .row) (y .low)) where
+      (some : 0 < touchedAfter alone word s at ws k e .end) (low : touchedAfter alone word s at ws k e .first ≤ floorOf structure.Frame s (at .column + k) (x .low) (at .row) (y .low)) where
     abbrev Stays : ℕ → Type 0
     Stays j = (0 < After j e .end) × (After j e .first ≡ After k e .first)
 
     stays-next : (j : ℕ) → k ≤ j → j < n → (t : Bool) → usesVector alone (wordAt (commandAt ws j) 1) ≡ t → Stays j → Stays (j + 1)
     stays-next j later h true u before =
-        let above = above-floor s (record { column = at .column + j; row = at .row }) (at .column + k) x y (wordAt (commandAt ws j) word) (omega arith) (fit j h u) in
+        let above = above-floor structure.Frame s (record { column = at .column + j; row = at .row }) (at .column + k) x y (wordAt (commandAt ws j) word) (omega arith) (fit j h u) in
         let r = reachAt alone word s at ws j in
         let is = uses-one j e u in (
           omega (arith, ap (λ (z : Extent). z .end) is, join-end (After j e) r, before .0),

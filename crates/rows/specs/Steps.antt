@@ -10,6 +10,7 @@ use Rattle.fields.specs.Word.{bits, withBits}
 use Rattle.prediction.specs.Lines.{lineOf, vectorInLines, reachOf}
 use Rattle.prediction.specs.declared.Extent.{Extent}
 use Rattle.prediction.specs.declared.Position.{Position}
+use Rattle.prediction.specs.declared.Structure.the-variants as structure
 use Rattle.headers.specs.Headers.{macroblockHeader}
 use Rattle.headers.specs.Words.{wordAt}
 use Rattle.picture.specs.declared.Picture.{Picture}
@@ -23,10 +24,10 @@ use Rattle.rows.specs.declared.Step.the-variants.{Kept, Left}
 unfoldable pub linesOf : Picture → Lines
 linesOf p =
     record {
-      «forward_x» = lineOf (p .grid .columns) (p .forward .x);
-      «forward_y» = lineOf (p .grid .rows) (p .forward .y);
-      «backward_x» = lineOf (p .grid .columns) (p .backward .x);
-      «backward_y» = lineOf (p .grid .rows) (p .backward .y);
+      «forward_x» = lineOf 16 (p .grid .columns) (p .forward .x);
+      «forward_y» = lineOf 16 (p .grid .rows) (p .forward .y);
+      «backward_x» = lineOf 16 (p .grid .columns) (p .backward .x);
+      «backward_y» = lineOf 16 (p .grid .rows) (p .backward .y);
     }
 
 -- A P or B picture.
@@ -46,16 +47,16 @@ abbrev pub placeIn : Progress → ℕ → Position
 placeIn p column = record { column = column; row = p .position .row }
 
 abbrev pub reachIn : Progress → ℕ → ℕ → Extent
-reachIn p column w = reachOf (p .frame .surface) (placeIn p column) w
+reachIn p column w = reachOf structure.Frame (p .frame .surface) (placeIn p column) w
 
 -- A word's vector keeps its lines.
 abbrev pub ForwardFits : Progress → ℕ → ℕ → Type 0
 ForwardFits p column w =
-    vectorInLines (linesOf (p .picture) .«forward_x») (linesOf (p .picture) .«forward_y») column (p .position .row) w ≡ true
+    vectorInLines structure.Frame (linesOf (p .picture) .«forward_x») (linesOf (p .picture) .«forward_y») column (p .position .row) w ≡ true
 
 abbrev pub BackwardFits : Progress → ℕ → ℕ → Type 0
 BackwardFits p column w =
-    vectorInLines (linesOf (p .picture) .«backward_x») (linesOf (p .picture) .«backward_y») column (p .position .row) w ≡ true
+    vectorInLines structure.Frame (linesOf (p .picture) .«backward_x») (linesOf (p .picture) .«backward_y») column (p .position .row) w ≡ true
 
 -- Each kind: its type, the picture's, its vectors, and the ends of what is touched of both references after it.
 module _ (p : Progress) (column forward backward : ℕ) (ws : List ℕ) where

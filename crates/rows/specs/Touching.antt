@@ -15,6 +15,7 @@ use Rattle.prediction.specs.declared.Extent.{Extent}
 use Rattle.prediction.specs.declared.Line.{Line}
 use Rattle.prediction.specs.declared.Position.{Position}
 use Rattle.prediction.specs.declared.Surface.{Surface}
+use Rattle.prediction.specs.declared.Structure.the-variants as structure
 use Rattle.progress.specs.declared.Progress.{Progress}
 use Rattle.rows.specs.Words.{lowHalf}
 
@@ -29,7 +30,7 @@ usesVector alone one = eqb (withBits (lowHalf one) 2 2 0) alone || eqb (withBits
 -- The reference whose vectors stand in a word of their commands, where the row begins at a position.
 module _ (alone word : ℕ) (s : Surface) (at : Position) (ws : List ℕ) where
   abbrev pub reachAt : ℕ → Extent
-  reachAt k = reachOf s (record { column = at .column + k; row = at .row }) (wordAt (commandAt ws k) word)
+  reachAt k = reachOf structure.Frame s (record { column = at .column + k; row = at .row }) (wordAt (commandAt ws k) word)
 
   -- What the k-th command touches of it, and all before the k-th.
   abbrev pub touchedBy : ℕ → Extent
@@ -43,7 +44,7 @@ module _ (alone word : ℕ) (s : Surface) (at : Position) (ws : List ℕ) where
   abbrev pub VectorsFit : Line → Line → ℕ → Type 0
   VectorsFit x y n =
       (k : ℕ) → k < n → usesVector alone (wordAt (commandAt ws k) 1) ≡ true
-      → vectorInLines x y (at .column + k) (at .row) (wordAt (commandAt ws k) word) ≡ true
+      → vectorInLines structure.Frame x y (at .column + k) (at .row) (wordAt (commandAt ws k) word) ≡ true
 
   -- And so each touches some byte.
   abbrev pub AllTouch : ℕ → Type 0
@@ -68,5 +69,5 @@ backwardAfter p ws k = touchedAfter 0x200 6 (p .frame .surface) (p .position) ws
 pub record Seen (p : Progress) (ws : List ℕ) (k forward backward : ℕ) : Type 0 where
   pub forward-end : forward ≡ forwardAfter p ws k .end
   pub backward-end : backward ≡ backwardAfter p ws k .end
-  pub forward-fit : VectorsFit 0x100 5 (p .frame .surface) (p .position) ws (lineOf (p .picture .grid .columns) (p .picture .forward .x)) (lineOf (p .picture .grid .rows) (p .picture .forward .y)) k
-  pub backward-fit : VectorsFit 0x200 6 (p .frame .surface) (p .position) ws (lineOf (p .picture .grid .columns) (p .picture .backward .x)) (lineOf (p .picture .grid .rows) (p .picture .backward .y)) k
+  pub forward-fit : VectorsFit 0x100 5 (p .frame .surface) (p .position) ws (lineOf 16 (p .picture .grid .columns) (p .picture .forward .x)) (lineOf 16 (p .picture .grid .rows) (p .picture .forward .y)) k
+  pub backward-fit : VectorsFit 0x200 6 (p .frame .surface) (p .position) ws (lineOf 16 (p .picture .grid .columns) (p .picture .backward .x)) (lineOf 16 (p .picture .grid .rows) (p .picture .backward .y)) k

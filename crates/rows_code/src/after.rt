@@ -1,6 +1,7 @@
 // The progress after commands of a row: what it is made of depends on the last of them alone, but for what is touched of the references.
 use prediction::Extent;
 use prediction::Position;
+use prediction::Structure;
 use prediction_code::extents;
 use progress::Extents;
 use progress::Progress;
@@ -12,8 +13,21 @@ fn extents_next(progress: Progress, column: u16, forward: Extent, backward: Exte
 {
     let surface = progress.frame.surface;
     let row = progress.position.row;
-    let first = prediction_code::reach_first(surface, progress.position.column, row, 0);
-    let end = prediction_code::reach_end(surface.pitch, surface.chroma_row, column, row, 0);
+    let first = prediction_code::reach_first(
+        Structure::Frame,
+        surface,
+        progress.position.column,
+        row,
+        0,
+    );
+    let end = prediction_code::reach_end(
+        Structure::Frame,
+        surface.pitch,
+        surface.chroma_row,
+        column,
+        row,
+        0,
+    );
     let own = Extent { first, end };
     let source = extents::join(progress.extents.source, own);
     let reconstructed = extents::join(progress.extents.reconstructed, own);

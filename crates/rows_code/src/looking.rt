@@ -5,12 +5,14 @@ use picture::Codes;
 use prediction::Extent;
 use prediction::Grid;
 use prediction::Position;
+use prediction::Structure;
 use prediction::Surface;
 ghost use mathlib.Core.Bool.{cond};
 ghost use mathlib.Core.Path.{_≡_};
 ghost use Prim.Native.Nat.{_+_, _/_, _≤_, _<_, min};
 ghost use lib.ListN.{length};
 ghost use Rattle.prediction.specs.Lines.{lineOf, reachOf};
+ghost use Rattle.prediction.specs.declared.Structure.the-variants.{Frame};
 ghost use Rattle.rows.specs.Touching.{usesVector, VectorsFit, lowestOf, Lowered};
 
 // Whether a command with this word 1 is predicted from the reference.
@@ -42,12 +44,12 @@ fn first_next(
     one: u32,
     vector: u32,
 ) -> u64
-    ensures { λ r. ⌜ r ≡ cond (usesVector alone one) (min first (reachOf surface (record { column = column; row = row }) vector .first)) first ⌝ }
+    ensures { λ r. ⌜ r ≡ cond (usesVector alone one) (min first (reachOf Frame surface (record { column = column; row = row }) vector .first)) first ⌝ }
 {
     if !uses(alone, one) {
         return first;
     }
-    prediction_code::first_with(first, surface, column, row, vector)
+    prediction_code::first_with(first, Structure::Frame, surface, column, row, vector)
 }
 
 // The first byte that is touched of the reference after the commands before word `at`, where `first` is the one before them. The look ends
@@ -64,19 +66,19 @@ pub(crate) fn first_after(
     at: usize,
     words: &[u32],
 ) -> u64
-    requires { ⌜ (at ≤ length (now words)) × (word < 9) × (position .column + at / 9 < 65536) × VectorsFit alone word surface position (now words) (lineOf (grid .columns) (codes .x)) (lineOf (grid .rows) (codes .y)) (at / 9) ⌝ }
+    requires { ⌜ (at ≤ length (now words)) × (word < 9) × (position .column + at / 9 < 65536) × VectorsFit alone word surface position (now words) (lineOf 16 (grid .columns) (codes .x)) (lineOf 16 (grid .rows) (codes .y)) (at / 9) ⌝ }
     ensures { λ r. ⌜ Lowered alone word surface position (now (words .entry)) (at / 9) first r ⌝ }
 {
     let row = position.row;
-    let across = prediction_code::line_of(grid.columns, codes.x);
-    let down = prediction_code::line_of(grid.rows, codes.y);
+    let across = prediction_code::line_of(Structure::Frame, grid.columns, codes.x);
+    let down = prediction_code::line_of(Structure::Frame, grid.rows, codes.y);
     let left = across.low;
     let low = down.low;
     let mut lowest = first;
     let mut column = position.column;
     let mut i = 0;
     while i + 9 <= at {
-        if lowest <= prediction_code::floor_of(surface, column, left, row, low) {
+        if lowest <= prediction_code::floor_of(Structure::Frame, surface, column, left, row, low) {
             break;
         }
         lowest = first_next(

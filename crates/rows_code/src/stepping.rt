@@ -1,6 +1,7 @@
 // One MACROBLOCK command of a row.
 use crate::words;
 use picture::Picture;
+use prediction::Structure;
 use prediction_code::extents;
 use progress::Progress;
 use rows::Lines;
@@ -18,10 +19,10 @@ pub(crate) fn lines_of(picture: Picture) -> Lines
 {
     let columns = picture.grid.columns;
     let rows = picture.grid.rows;
-    let forward_x = prediction_code::line_of(columns, picture.forward.x);
-    let forward_y = prediction_code::line_of(rows, picture.forward.y);
-    let backward_x = prediction_code::line_of(columns, picture.backward.x);
-    let backward_y = prediction_code::line_of(rows, picture.backward.y);
+    let forward_x = prediction_code::line_of(Structure::Frame, columns, picture.forward.x);
+    let forward_y = prediction_code::line_of(Structure::Frame, rows, picture.forward.y);
+    let backward_x = prediction_code::line_of(Structure::Frame, columns, picture.backward.x);
+    let backward_y = prediction_code::line_of(Structure::Frame, rows, picture.backward.y);
     Lines {
         forward_x,
         forward_y,
@@ -61,12 +62,19 @@ fn judge_forward(
     if five != headers_code::word_at(words, 6) {
         return Step::Left;
     }
-    if !prediction_code::vector_in_lines(x, y, column, row, five) {
+    if !prediction_code::vector_in_lines(Structure::Frame, x, y, column, row, five) {
         return Step::Left;
     }
     let next = extents::join_ends(
         forward,
-        prediction_code::reach_end(surface.pitch, surface.chroma_row, column, row, five),
+        prediction_code::reach_end(
+            Structure::Frame,
+            surface.pitch,
+            surface.chroma_row,
+            column,
+            row,
+            five,
+        ),
     );
     Step::Kept(next, backward)
 }
@@ -95,12 +103,19 @@ fn judge_backward(
     if headers_code::word_at(words, 5) != six {
         return Step::Left;
     }
-    if !prediction_code::vector_in_lines(x, y, column, row, six) {
+    if !prediction_code::vector_in_lines(Structure::Frame, x, y, column, row, six) {
         return Step::Left;
     }
     let next = extents::join_ends(
         backward,
-        prediction_code::reach_end(surface.pitch, surface.chroma_row, column, row, six),
+        prediction_code::reach_end(
+            Structure::Frame,
+            surface.pitch,
+            surface.chroma_row,
+            column,
+            row,
+            six,
+        ),
     );
     Step::Kept(forward, next)
 }
@@ -129,19 +144,33 @@ fn judge_both(
     if coding != 3 {
         return Step::Left;
     }
-    if !prediction_code::vector_in_lines(x, y, column, row, five) {
+    if !prediction_code::vector_in_lines(Structure::Frame, x, y, column, row, five) {
         return Step::Left;
     }
     let first = extents::join_ends(
         forward,
-        prediction_code::reach_end(surface.pitch, surface.chroma_row, column, row, five),
+        prediction_code::reach_end(
+            Structure::Frame,
+            surface.pitch,
+            surface.chroma_row,
+            column,
+            row,
+            five,
+        ),
     );
-    if !prediction_code::vector_in_lines(back_x, back_y, column, row, six) {
+    if !prediction_code::vector_in_lines(Structure::Frame, back_x, back_y, column, row, six) {
         return Step::Left;
     }
     let second = extents::join_ends(
         backward,
-        prediction_code::reach_end(surface.pitch, surface.chroma_row, column, row, six),
+        prediction_code::reach_end(
+            Structure::Frame,
+            surface.pitch,
+            surface.chroma_row,
+            column,
+            row,
+            six,
+        ),
     );
     Step::Kept(first, second)
 }

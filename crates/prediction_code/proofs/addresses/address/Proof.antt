@@ -8,8 +8,8 @@ use borrow.Author.Needs.{needs}
 use Rattle.prediction_code.proofs.addresses.address.Statement.{statement}
 use Rattle.prediction_code.proofs.addresses.address.Tie as tie
 
-product : (c : tie.Start) → c .args .row / 32 * 32 * c .args .pitch ≤ 2097151 * 4294967295
-product c = product-le 2097151 4294967295 (omega arith) (omega arith)
+product : (c : tie.Start) → c .args .row / 32 * 32 * c .args .pitch ≤ 4194303 * 4294967295
+product c = product-le 4194303 4294967295 (omega arith) (omega arith)
 
 mul-strip : tie.Need-mul-strip
 mul-strip c = search needs

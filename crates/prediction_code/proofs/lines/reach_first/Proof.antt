@@ -25,7 +25,7 @@ returns c =
     let a = x .before .args in
     sym
     (ap (λ (e : Extent). e .first)
-    (reach-before (a .surface) (record { column = a .column; row = a .row }) (a .word) (x .x-of .result) (y .y-of .result) (x .x-of .ensures .0) (y .y-of .ensures .0)
+    (reach-before (a .structure) (a .surface) (record { column = a .column; row = a .row }) (a .word) (x .x-of .result) (y .y-of .result) (x .x-of .ensures .0) (y .y-of .ensures .0)
     (sym (c .before .starts .ensures) ∙ not-true _ (c .if1 .taken))))
 
 block-first-requires : tie.Need-block-first-requires
@@ -33,7 +33,7 @@ block-first-requires c κs =
     let y = c .before .before in
     let x = y .before in
     let a = x .before .args in
-    let in-picture = reach-starts (a .surface) (record { column = a .column; row = a .row }) (a .word) (x .x-of .result) (y .y-of .result) (x .x-of .ensures .0) (y .y-of .ensures .0)
+    let in-picture = reach-starts (a .structure) (a .surface) (record { column = a .column; row = a .row }) (a .word) (x .x-of .result) (y .y-of .result) (x .x-of .ensures .0) (y .y-of .ensures .0)
     (sym (c .before .starts .ensures) ∙ not-false _ (c .if1 .left)) in
     (x .x-of .ensures .1, in-picture .0, y .y-of .ensures .1, in-picture .1)
 
@@ -46,7 +46,7 @@ returns-2 c =
     c .block-first .ensures
     ∙ ap (λ (e : Extent). e .first)
     (sym
-    (reach-starts (a .surface) (record { column = a .column; row = a .row }) (a .word) (x .x-of .result) (y .y-of .result) (x .x-of .ensures .0) (y .y-of .ensures .0)
+    (reach-starts (a .structure) (a .surface) (record { column = a .column; row = a .row }) (a .word) (x .x-of .result) (y .y-of .result) (x .x-of .ensures .0) (y .y-of .ensures .0)
     (sym (d .before .starts .ensures) ∙ not-false _ (d .if1 .left)) .2))
 
 pub reach-first-spec : {M : Type 1} → statement M

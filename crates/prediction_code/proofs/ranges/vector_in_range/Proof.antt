@@ -1,7 +1,11 @@
 -- `vector_in_range`: whether both components of a vector lie in the ranges of their codes.
-use mathlib.Core.Path.{_≡_, sym, ap, _∙_}
+use mathlib.Core.Path.{_≡_, sym, ap, ap₂, _∙_}
 use mathlib.Core.Bool.{Bool, _&&_}
 use borrow.Author.Tests.{not-true, not-false}
+use Prim.Native.Nat.{ℕ}
+use lib.IntN.{ℤ}
+use Rattle.prediction.specs.Addresses.{luma}
+use Rattle.prediction.specs.Structures.{rowsIn}
 use Rattle.prediction.specs.Ranges.{inRange, vectorInRange}
 use Rattle.prediction.proofs.TwosComplement.{read-back}
 use borrow.Author.Needs.{needs}
@@ -23,7 +27,10 @@ returns : tie.Need-returns
 unfolding vectorInRange
 returns c =
     let a = c .before .before .before .before .before .args in
-    sym (ap (λ (t : Bool). t && inRange 16 (a .y-code) (a .vector .y)) (sym (x-in (c .before)) ∙ not-true _ (c .if1 .taken)))
+    sym (ap (λ (t : Bool). t && inRange (rowsIn (a .structure) luma) (a .y-code) (a .vector .y)) (sym (x-in (c .before)) ∙ not-true _ (c .if1 .taken)))
+
+luma-rows-requires : tie.Need-luma-rows-requires
+luma-rows-requires c κs = search needs
 
 biased-requires-2 : tie.Need-biased-requires-2
 biased-requires-2 c κs = search needs
@@ -34,10 +41,13 @@ in-range-requires-2 c κs = search needs
 returns-2 : tie.Need-returns-2
 unfolding vectorInRange
 returns-2 c =
-    let s = c .before .before .before .before .before in
+    let rows = c .before .before .luma-rows in
+    let d = c .before .before .before in
+    let s = d .before .before .before in
     let a = s .before .before .args in
-    let y = c .in-range2 .ensures ∙ ap (inRange 16 (a .y-code)) (c .before .biased2 .ensures .0 ∙ read-back (a .vector .y) (s .struct-told2 .given .1 .0 .1)) in
-    y ∙ sym (ap (λ (t : Bool). t && inRange 16 (a .y-code) (a .vector .y)) (sym (x-in (c .before .before .before)) ∙ not-false _ (c .before .before .if1 .left)))
+    c .in-range2 .ensures
+    ∙ ap₂ (λ (n : ℕ) (z : ℤ). inRange n (a .y-code) z) (rows .ensures .0) (c .before .biased2 .ensures .0 ∙ read-back (a .vector .y) (s .struct-told2 .given .1 .0 .1))
+    ∙ sym (ap (λ (t : Bool). t && inRange (rowsIn (a .structure) luma) (a .y-code) (a .vector .y)) (sym (x-in (d .before)) ∙ not-false _ (d .if1 .left)))
 
 pub vector-in-range-spec : {M : Type 1} → statement M
 vector-in-range-spec =
@@ -46,6 +56,7 @@ vector-in-range-spec =
     biased-requires
     in-range-requires
     returns
+    luma-rows-requires
     biased-requires-2
     in-range-requires-2
     returns-2)

@@ -9,6 +9,7 @@ use Rattle.prediction.specs.Lines.{lineOf, floorOf}
 use Rattle.prediction.specs.declared.Extent.{Extent}
 use Rattle.prediction.specs.declared.Line.{Line}
 use Rattle.prediction.specs.declared.Surface.{Surface}
+use Rattle.prediction.specs.declared.Structure.the-variants as structure
 use Rattle.rows.specs.Touching.{touchedAfter, lowestOf, Lowered}
 use Rattle.rows.proofs.TouchedLaws.{look-on, fit-touches, after-above, lowest-touches, lowest-first}
 use Rattle.rows_code.proofs.looking.first_after.Statement.{statement}
@@ -83,8 +84,8 @@ loop-again c =
     let a = d .args in
     let p = d .pre in
     let test = c .before .before .before .before .before .loop-test .taken in
-    let x = lineOf (a .grid .columns) (a .codes .x) in
-    let y = lineOf (a .grid .rows) (a .codes .y) in
+    let x = lineOf 16 (a .grid .columns) (a .codes .x) in
+    let y = lineOf 16 (a .grid .rows) (a .codes .y) in
     let touch = fit-touches (a .alone) (a .word) (a .surface) (a .position) (a .words .now) x y (a .at / 9) (p .3) in
     record {
       k = l .inv .k + 1;
@@ -111,14 +112,14 @@ returns-2 c =
     let a = d .args in
     let p = d .pre in
     let k = l .inv .k in
-    let x = lineOf (a .grid .columns) (a .codes .x) in
-    let y = lineOf (a .grid .rows) (a .codes .y) in
+    let x = lineOf 16 (a .grid .columns) (a .codes .x) in
+    let y = lineOf 16 (a .grid .rows) (a .codes .y) in
     let After : Extent → Extent = touchedAfter (a .alone) (a .word) (a .surface) (a .position) (a .words .now) k in
     let floor = c .before .floor-of .ensures in
     let here =
     floor .0
-    ∙ ap₂ (λ (m : ℕ) (n : Line). floorOf (a .surface) m (n .low) (a .position .row) (c .before .before .before .before .line-of2 .result .low)) (l .inv .column-is) (c .before .before .before .before .before .line-of .ensures)
-    ∙ ap (λ (n : Line). floorOf (a .surface) (a .position .column + k) (x .low) (a .position .row) (n .low)) (c .before .before .before .before .line-of2 .ensures) in
+    ∙ ap₂ (λ (m : ℕ) (n : Line). floorOf structure.Frame (a .surface) m (n .low) (a .position .row) (c .before .before .before .before .line-of2 .result .low)) (l .inv .column-is) (c .before .before .before .before .before .line-of .ensures)
+    ∙ ap (λ (n : Line). floorOf structure.Frame (a .surface) (a .position .column + k) (x .low) (a .position .row) (n .low)) (c .before .before .before .before .line-of2 .ensures) in
     λ e h. let seen = l .inv .lowered e h in
     let some = lowest-touches (After e) (omega (arith, seen, c .if1 .taken, floor .1)) in
     seen

@@ -1,0 +1,36 @@
+// Frames and fields.
+use prediction::Structure;
+ghost use mathlib.Core.Path.{_≡_};
+ghost use Prim.Native.Nat.{_+_, _*_, _≤_, _<_};
+ghost use Rattle.prediction.specs.Addresses.{luma};
+ghost use Rattle.prediction.specs.Structures.{halfRows, rowsIn, rowOf};
+
+// The chroma rows of a block.
+pub(crate) fn half_rows(structure: Structure) -> u8
+    ensures { λ r. ⌜ (r ≡ halfRows structure) × (r ≤ 8) × (4 ≤ r) ⌝ }
+{
+    match structure {
+        Structure::Frame => 8,
+        Structure::TopField => 4,
+        Structure::BottomField => 4,
+    }
+}
+
+// Its luma rows.
+pub(crate) fn luma_rows(structure: Structure) -> u8
+    ensures { λ r. ⌜ (r ≡ rowsIn structure luma) × (r ≤ 16) × (8 ≤ r) ⌝ }
+{
+    2 * half_rows(structure)
+}
+
+// The row of the frame at which a row of the structure stands.
+pub(crate) fn row_of(structure: Structure, row: u32) -> u32
+    requires { ⌜ row < 2097152 ⌝ }
+    ensures { λ r. ⌜ (r ≡ rowOf structure row) × (r ≤ 2 * row + 1) ⌝ }
+{
+    match structure {
+        Structure::Frame => row,
+        Structure::TopField => 2 * row,
+        Structure::BottomField => 2 * row + 1,
+    }
+}
