@@ -19,12 +19,12 @@ flagsMade a b c d e f = record { «first_in_slice» = a; «last_in_slice» = b; 
 pub same-flags : {a b c d e f a′ b′ c′ d′ e′ f′ : Bool} → a ≡ a′ → b ≡ b′ → c ≡ c′ → d ≡ d′ → e ≡ e′ → f ≡ f′ → flagsMade a b c d e f ≡ flagsMade a′ b′ c′ d′ e′ f′
 same-flags ea eb ec ed ee ef = cc
 
-abbrev pub made : ℕ → ℕ → ℕ → Case → Bool → ℕ → ℕ → ℕ → ℕ → Flags → Macroblock
-made a b c d e f g h i j =
-    record { column = a; row = b; upper = c; case = d; skip = e; pattern = f; «max_size» = g; «target_size» = h; quantiser = i; flags = j }
+abbrev pub made : ℕ → ℕ → ℕ → Case → Bool → Bool → ℕ → ℕ → ℕ → ℕ → Flags → Macroblock
+made a b c d e k f g h i j =
+    record { column = a; row = b; upper = c; case = d; skip = e; «dct_type» = k; pattern = f; «max_size» = g; «target_size» = h; quantiser = i; flags = j }
 
-pub same-macroblock : {a b c a′ b′ c′ : ℕ} {d d′ : Case} {e e′ : Bool} {f g h i f′ g′ h′ i′ : ℕ} {j j′ : Flags} → a ≡ a′ → b ≡ b′ → c ≡ c′ → d ≡ d′ → e ≡ e′ → f ≡ f′ → g ≡ g′ → h ≡ h′ → i ≡ i′ → j ≡ j′ → made a b c d e f g h i j ≡ made a′ b′ c′ d′ e′ f′ g′ h′ i′ j′
-same-macroblock ea eb ec ed ee ef eg eh ei ej = cc
+pub same-macroblock : {a b c a′ b′ c′ : ℕ} {d d′ : Case} {e k e′ k′ : Bool} {f g h i f′ g′ h′ i′ : ℕ} {j j′ : Flags} → a ≡ a′ → b ≡ b′ → c ≡ c′ → d ≡ d′ → e ≡ e′ → k ≡ k′ → f ≡ f′ → g ≡ g′ → h ≡ h′ → i ≡ i′ → j ≡ j′ → made a b c d e k f g h i j ≡ made a′ b′ c′ d′ e′ k′ f′ g′ h′ i′ j′
+same-macroblock ea eb ec ed ee ek ef eg eh ei ej = cc
 
 pub same-assembled : {a b c d a′ b′ c′ d′ : ℕ} {e e′ : Case} → a ≡ a′ → b ≡ b′ → c ≡ c′ → d ≡ d′ → e ≡ e′ → assembled a b c d e ≡ assembled a′ b′ c′ d′ e′
 same-assembled {a} {b} {c} {d} {a′} {b′} {c′} {d′} {e} {e′} ea eb ec ed ee =

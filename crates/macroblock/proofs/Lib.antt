@@ -1,4 +1,5 @@
 -- for the crates above
+pub mod Allowing
 pub mod CaseLaws
 pub mod CommandLaws
 pub mod Congruence

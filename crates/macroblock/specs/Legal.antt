@@ -1,7 +1,7 @@
 -- The macroblocks that a command can hold.
 -- To be believed: what a whole legal command is. `Legal` is proved against it, by `words-kept` and `macroblock-legal` (proofs/CommandLaws.antt).
 use Prim.Native.Nat.{ℕ, _<_, _^_}
-use mathlib.Core.Bool.{true}
+use mathlib.Core.Bool.{true, not, _&&_}
 use mathlib.Core.List.{List, [], _∷_}
 use mathlib.Core.Path.{_≡_}
 use lib.ListN.{length}
@@ -11,9 +11,9 @@ use Rattle.prediction.specs.declared.Vector.{Vector}
 use Rattle.answers.specs.Answers.{judged}
 use Rattle.headers.specs.Headers.{macroblockHeader}
 use Rattle.headers.specs.Words.{wordAt}
-use Rattle.macroblock.specs.Rules.{keptBy, commandRules}
+use Rattle.macroblock.specs.Rules.{keptBy, commandRules, alone}
 use Rattle.answers.specs.declared.Answer.the-variants.{Accepted}
-use Rattle.macroblock.specs.declared.Prediction.the-variants.{Forward, Backward, Both}
+use Rattle.macroblock.specs.declared.Prediction.the-variants.{Forward, Backward, Both, Field}
 use Rattle.macroblock.specs.declared.Case.{Case}
 use Rattle.macroblock.specs.declared.Case.the-variants.{Intra, Inter}
 use Rattle.macroblock.specs.declared.Macroblock.{Macroblock}
@@ -28,7 +28,7 @@ pub record LegalCommand (ws : List ℕ) : Type 0 where
   pub nine : length ws ≡ 9
   pub words : Words ws
   pub header : wordAt ws 0 ≡ macroblockHeader
-  pub kept : judged (commandRules ws) ≡ Accepted
+  pub kept : judged (commandRules alone ws) ≡ Accepted
 
 -- The vectors fit their halves of a word.
 abbrev pub VectorFits : Vector → Type 0
@@ -39,8 +39,10 @@ CaseFits Intra = Unit {0}
 CaseFits (Inter (Forward f)) = VectorFits f
 CaseFits (Inter (Backward b)) = VectorFits b
 CaseFits (Inter (Both f b)) = VectorFits f × VectorFits b
+CaseFits (Inter (Field t b i j)) = VectorFits t × VectorFits b
 
--- Each field fits its bits, and the rules of the macroblock itself hold.
+-- Each field fits its bits, and the rules of the macroblock itself hold. Document 02: "dct type .. is free on macroblocks that are
+-- not skipped".
 pub record Legal (m : Macroblock) : Type 0 where
   pub column-fits : m .column < 65536
   pub row-fits : m .row < 65536
@@ -54,3 +56,5 @@ pub record Legal (m : Macroblock) : Type 0 where
   pub quantiser-permitted : keptBy m .quantiser ≡ true
   pub skip-inside-slice : keptBy m .«skip_inside_slice» ≡ true
   pub skip-pattern : keptBy m .«skip_pattern» ≡ true
+  pub field-not-skipped : keptBy m .«field_not_skipped» ≡ true
+  pub dct-not-skipped : not (m .«dct_type» && m .skip) ≡ true

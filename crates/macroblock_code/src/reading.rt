@@ -17,17 +17,22 @@ pub fn kind_in(word1: u32) -> u8
     fields_code::bits(word1, 12, 8) as u8
 }
 
-// The kind and the words that hold the vectors.
+// The kind, the words that hold the vectors, and the choices of word 4.
 pub(crate) fn motion_in(words: &[u32]) -> Motion
     ensures { λ r. ⌜ r ≡ motionIn (now (words .entry)) ⌝ }
 {
     let kind = kind_in(headers_code::word_at(words, 1));
     let forward = headers_code::word_at(words, 5);
     let backward = headers_code::word_at(words, 6);
+    let bottom = headers_code::word_at(words, 7);
+    let word4 = headers_code::word_at(words, 4);
     Motion {
         kind,
         forward,
         backward,
+        bottom,
+        top_from_bottom: fields_code::is_set(word4, 16),
+        bottom_from_bottom: fields_code::is_set(word4, 18),
     }
 }
 
@@ -56,6 +61,7 @@ fn assembled(one: u32, two: u32, three: u32, four: u32, case: Case) -> Macrobloc
         upper: fields_code::bits(one, 31, 16) as u16,
         case,
         skip: fields_code::is_set(one, 2),
+        dct_type: fields_code::is_set(one, 15),
         pattern: fields_code::bits(three, 11, 6) as u8,
         max_size: fields_code::bits(three, 31, 24) as u8,
         target_size: fields_code::bits(three, 23, 16) as u8,

@@ -60,6 +60,7 @@ storedPicture m =
       forward = record { x = storedNumber 8 m places.forwardX; y = storedNumber 8 m places.forwardY };
       backward = record { x = storedNumber 8 m places.backwardX; y = storedNumber 8 m places.backwardY };
       grid = record { columns = storedNumber 16 m places.columns; rows = storedNumber 16 m places.rows };
+      «frame_pred_frame_dct» = storedFlag m places.framePredFrameDct;
     }
 
 abbrev pub storedPosition : List ℕ → Position
@@ -143,6 +144,7 @@ pictureFields p =
     ∷ (places.backwardY, p .backward .y)
     ∷ (places.columns, p .grid .columns)
     ∷ (places.rows, p .grid .rows)
+    ∷ (places.framePredFrameDct, flag (p .«frame_pred_frame_dct»))
     ∷ []
 
 abbrev pub positionFields : Position → List (ℕ × ℕ)

@@ -144,3 +144,7 @@ forwardFirst = reconstructedFirst + 1
 
 abbrev pub backwardFirst : ℕ
 backwardFirst = forwardFirst + 1
+
+-- The picture's bit 10.
+abbrev pub framePredFrameDct : ℕ
+framePredFrameDct = backwardFirst + 1

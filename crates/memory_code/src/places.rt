@@ -96,3 +96,6 @@ pub(crate) const RECONSTRUCTED_FIRST: usize = SOURCE_FIRST + 1;
 pub(crate) const FORWARD_FIRST: usize = RECONSTRUCTED_FIRST + 1;
 
 pub(crate) const BACKWARD_FIRST: usize = FORWARD_FIRST + 1;
+
+// The picture's bit 10.
+pub(crate) const FRAME_PRED_FRAME_DCT: usize = BACKWARD_FIRST + 1;

@@ -60,6 +60,7 @@ fn picture_in(memory: &[u64; memory::WORDS]) -> Picture
             columns: (memory[places::COLUMNS] % 65536) as u16,
             rows: (memory[places::ROWS] % 65536) as u16,
         },
+        frame_pred_frame_dct: memory[places::FRAME_PRED_FRAME_DCT] != 0,
     }
 }
 

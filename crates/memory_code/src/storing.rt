@@ -57,6 +57,7 @@ fn put_picture(picture: Picture, memory: &mut [u64; memory::WORDS])
     memory[places::BACKWARD_Y] = picture.backward.y as u64;
     memory[places::COLUMNS] = picture.grid.columns as u64;
     memory[places::ROWS] = picture.grid.rows as u64;
+    memory[places::FRAME_PRED_FRAME_DCT] = picture.frame_pred_frame_dct as u64;
 }
 
 fn put_position(position: Position, memory: &mut [u64; memory::WORDS])

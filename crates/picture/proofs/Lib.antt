@@ -1,4 +1,5 @@
 -- for the crates above
+pub mod Before
 pub mod PictureLaws
 -- for this crate alone
 mod Worked

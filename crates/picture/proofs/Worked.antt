@@ -1,9 +1,9 @@
--- Document 01's own numbers, computed from the definitions.
+-- The documents' own numbers, computed from the definitions.
 use mathlib.Core.Path.{_≡_, refl}
 use mathlib.Core.Bool.{true}
 use Rattle.answers.specs.Examples.{found, due, allShown}
 use Rattle.headers.specs.Examples.{readBy, said}
-use Rattle.picture.specs.Examples.{p1Surface, surfaceReadings, surfacesKept, surfaceExamples, firstWord, rulesOn, pictureReadings, bitExamples, typeExamples, sizeExamples, pictureExamples}
+use Rattle.picture.specs.Examples.{p1Surface, surfaceReadings, surfacesKept, surfaceExamples, firstWord, rulesOn, pictureReadings, bitExamples, bit10Examples, typeExamples, sizeExamples, pictureExamples}
 use Rattle.picture.specs.Pictures.{pictureOf, pictureRules}
 use Rattle.picture.specs.Surfaces.{surfaceOf, surfaceRules}
 
@@ -22,5 +22,5 @@ unfolding pictureReadings pictureOf
 picture-fields = refl
 
 picture-rules : (found rulesOn pictureExamples ≡ due pictureExamples) × (allShown pictureExamples (rulesOn (firstWord 0xFFFF3400)) ≡ true)
-unfolding pictureExamples bitExamples typeExamples sizeExamples pictureRules pictureOf
+unfolding pictureExamples bitExamples bit10Examples typeExamples sizeExamples pictureRules pictureOf
 picture-rules = (refl, refl)

@@ -1,6 +1,8 @@
--- Worked examples of SURFACE and PICTURE commands: what they say, and which rules they break. What is quoted is document 01.
--- To be believed: numbers, places and what the words say are document 01's own.
+-- Worked examples of SURFACE and PICTURE commands: what they say, and which rules they break. What is quoted is document 01, and of
+-- bit 10 in PICTURE's word 1 document 02 (R-6).
+-- To be believed: numbers, places and what the words say are the documents' own.
 use Prim.Native.Nat.{ℕ, _+_, _*_}
+use mathlib.Core.Bool.{Bool, true, false}
 use mathlib.Core.List.{List, [], _∷_, _++_, map}
 use lib.ListN.{set, replicate}
 use Rattle.answers.specs.Answers.{Rule}
@@ -63,23 +65,35 @@ surfaceExamples =
 abbrev pub pictureWords : ℕ → ℕ → ℕ → List ℕ
 pictureWords one two three = 0x7300000B ∷ one ∷ two ∷ three ∷ replicate 9 0xFFFFFFFF
 
--- Type, forward x and y, backward x and y, W and H.
-abbrev pub picture : ℕ → ℕ → ℕ → ℕ → ℕ → ℕ → ℕ → Picture
-picture t fx fy bx by w h = record { coding = t; forward = codes fx fy; backward = codes bx by; grid = record { columns = w; rows = h } }
+-- Type, forward x and y, backward x and y, W and H, bit 10 of word 1.
+abbrev pub picture : ℕ → ℕ → ℕ → ℕ → ℕ → ℕ → ℕ → Bool → Picture
+picture t fx fy bx by w h frames =
+    record {
+      coding = t;
+      forward = codes fx fy;
+      backward = codes bx by;
+      grid = record { columns = w; rows = h };
+      «frame_pred_frame_dct» = frames;
+    }
 
--- P1's; P with W 120 and H 68; B whose f codes all differ, with W 256 and H 175; each field alone has all its bits
+-- P1's; P with W 120 and H 68; B whose f codes all differ, with W 256 and H 175; the same three with bit 10 zero; each field alone has
+-- all its bits
 unfoldable pub pictureReadings : List (WordReading Picture)
 pictureReadings =
-    reading (pictureWords 0xFFFF3400 0x200 0) (picture 1 15 15 15 15 1 1)
-    ∷ reading (pictureWords 0xFF913400 0x400 0x00430077) (picture 2 1 9 15 15 120 68)
-    ∷ reading (pictureWords 0x75913400 0x600 0x00AE00FF) (picture 3 1 9 5 7 256 175)
-    ∷ reading (pictureWords 0x000F0000 0 0) (picture 0 15 0 0 0 1 1)
-    ∷ reading (pictureWords 0x00F00000 0 0) (picture 0 0 15 0 0 1 1)
-    ∷ reading (pictureWords 0x0F000000 0 0) (picture 0 0 0 15 0 1 1)
-    ∷ reading (pictureWords 0xF0000000 0 0) (picture 0 0 0 0 15 1 1)
-    ∷ reading (pictureWords 0x0000FFFF 0x600 0xFF00FF00) (picture 3 0 0 0 0 1 1)
-    ∷ reading (pictureWords 0 0xFFFFF9FF 0x000000FF) (picture 0 0 0 0 0 256 1)
-    ∷ reading (pictureWords 0 0 0x00FF0000) (picture 0 0 0 0 0 1 256)
+    reading (pictureWords 0xFFFF3400 0x200 0) (picture 1 15 15 15 15 1 1 true)
+    ∷ reading (pictureWords 0xFF913400 0x400 0x00430077) (picture 2 1 9 15 15 120 68 true)
+    ∷ reading (pictureWords 0x75913400 0x600 0x00AE00FF) (picture 3 1 9 5 7 256 175 true)
+    ∷ reading (pictureWords 0xFFFF3000 0x200 0) (picture 1 15 15 15 15 1 1 false)
+    ∷ reading (pictureWords 0xFF913000 0x400 0x00430077) (picture 2 1 9 15 15 120 68 false)
+    ∷ reading (pictureWords 0x75913000 0x600 0x00AE00FF) (picture 3 1 9 5 7 256 175 false)
+    ∷ reading (pictureWords 0x000F0000 0 0) (picture 0 15 0 0 0 1 1 false)
+    ∷ reading (pictureWords 0x00F00000 0 0) (picture 0 0 15 0 0 1 1 false)
+    ∷ reading (pictureWords 0x0F000000 0 0) (picture 0 0 0 15 0 1 1 false)
+    ∷ reading (pictureWords 0xF0000000 0 0) (picture 0 0 0 0 15 1 1 false)
+    ∷ reading (pictureWords 0x00000400 0 0) (picture 0 0 0 0 0 1 1 true)
+    ∷ reading (pictureWords 0x0000FBFF 0x600 0xFF00FF00) (picture 3 0 0 0 0 1 1 false)
+    ∷ reading (pictureWords 0 0xFFFFF9FF 0x000000FF) (picture 0 0 0 0 0 256 1 false)
+    ∷ reading (pictureWords 0 0 0x00FF0000) (picture 0 0 0 0 0 1 256 false)
     ∷ []
 
 -- A PICTURE command on a surface.
@@ -107,12 +121,25 @@ withCodes two c = onP1 (c * 0x10000 + 0x3400) two 0
 abbrev pub withSize : Frame → ℕ → OnSurface
 withSize f three = record { on = f; words = pictureWords 0xFFFF3400 0x200 three }
 
--- "13:12 = 3, 10 = 1, 9 = 0, 5:0 zero, others free", and f codes that the type does not permit, which "are judged at word 2"
+-- "13:12 = 3, .. 9 = 0, 5:0 zero, others free", and f codes that the type does not permit, which "are judged at word 2"
 unfoldable pub bitExamples : List (Example OnSurface)
 bitExamples =
-    map (λ w. breaking 4 1 (firstWord w)) (turnedIn 0xFFFF3400 13 12 ++ turnedIn 0xFFFF3400 10 9 ++ turnedIn 0xFFFF3400 5 0)
+    map (λ w. breaking 4 1 (firstWord w)) (turnedIn 0xFFFF3400 13 12 ++ turnedIn 0xFFFF3400 9 9 ++ turnedIn 0xFFFF3400 5 0)
     ++ map (λ w. keeping (firstWord w)) (0xFFFF3400 ∷ turnedIn 0xFFFF3400 15 14 ++ turnedIn 0xFFFF3400 11 11 ++ turnedIn 0xFFFF3400 8 6)
     ++ map (λ w. breaking 5 2 (firstWord w)) (turnedIn 0xFFFF3400 31 16)
+
+-- "PICTURE bit 10 may now be 0": both ways in I, P and B; and with it zero the other bits of word 1 as above
+unfoldable pub bit10Examples : List (Example OnSurface)
+bit10Examples =
+    keeping (onP1 0xFFFF3000 0x200 0)
+    ∷ keeping (onP1 0xFFFF3400 0x200 0)
+    ∷ keeping (onP1 0xFF113000 0x400 0)
+    ∷ keeping (onP1 0xFF113400 0x400 0)
+    ∷ keeping (onP1 0x11113000 0x600 0)
+    ∷ keeping (onP1 0x11113400 0x600 0)
+    ∷ map (λ w. breaking 4 1 (firstWord w)) (turnedIn 0xFFFF3000 13 12 ++ turnedIn 0xFFFF3000 9 9 ++ turnedIn 0xFFFF3000 5 0)
+    ++ map (λ w. keeping (firstWord w)) (turnedIn 0xFFFF3000 15 14 ++ turnedIn 0xFFFF3000 11 11 ++ turnedIn 0xFFFF3000 8 6)
+    ++ map (λ w. breaking 5 2 (firstWord w)) (turnedIn 0xFFFF3000 31 16)
 
 -- "type in 10:9, 1 I, 2 P, 3 B; others unread"; "With I all f codes are 15; with P forward 1 to 9, backward 15; with B all 1 to 9."
 -- Types 0, 2 and 3 with I's codes; type 0 with P's and B's; then I, P and B with each code just permitted and just refused.
@@ -162,4 +189,4 @@ sizeExamples =
     ∷ []
 
 unfoldable pub pictureExamples : List (Example OnSurface)
-pictureExamples = bitExamples ++ typeExamples ++ sizeExamples
+pictureExamples = bitExamples ++ bit10Examples ++ typeExamples ++ sizeExamples

@@ -1,10 +1,10 @@
--- The words of a PICTURE command. What is quoted is document 01.
--- To be believed: what PICTURE says, and its rules.
+-- The words of a PICTURE command. What is quoted is document 01, and of bit 10 in word 1 document 02 (R-6).
+-- To be believed: what PICTURE says, and its rules. Where bit 10 is 1 they answer as document 01's did, by `picture-before` (proofs/Before.antt).
 use Prim.Native.Nat.{ℕ, _+_, _*_, _-_}
 use mathlib.Core.Bool.{Bool, _&&_, _||_}
 use mathlib.Core.List.{List, [], _∷_}
 use lib.Dec.{eqb, leb, ltb}
-use Rattle.fields.specs.Word.{bits, hasBits, zeroBits}
+use Rattle.fields.specs.Word.{bits, hasBits, zeroBits, isSet}
 use Rattle.prediction.specs.declared.Grid.{Grid}
 use Rattle.answers.specs.Answers.{Rule, rule}
 use Rattle.headers.specs.Words.{wordAt}
@@ -19,7 +19,9 @@ codes cx cy = record { x = cx; y = cy }
 abbrev pub gridIn : ℕ → Grid
 gridIn three = record { columns = bits three 7 0 + 1; rows = bits three 23 16 + 1 }
 
--- "1: f codes forward x 19:16, forward y 23:20, backward x 27:24, backward y 31:28"; "2: type in 10:9, 1 I, 2 P, 3 B".
+-- "1: f codes forward x 19:16, forward y 23:20, backward x 27:24, backward y 31:28"; "2: type in 10:9, 1 I, 2 P, 3 B". Bit 10 of
+-- word 1 says which macroblocks the picture allows: "PICTURE bit 10 may now be 0; then word 1 bit 15 (dct type) is free .., and type
+-- 04h is allowed in P".
 abbrev pub pictureIn : ℕ → ℕ → Grid → Picture
 pictureIn one two g =
     record {
@@ -27,15 +29,16 @@ pictureIn one two g =
       forward = codes (bits one 19 16) (bits one 23 20);
       backward = codes (bits one 27 24) (bits one 31 28);
       grid = g;
+      «frame_pred_frame_dct» = isSet (bits one 10 10);
     }
 
 -- What a command's words say.
 unfoldable pub pictureOf : List ℕ → Picture
 pictureOf ws = pictureIn (wordAt ws 1) (wordAt ws 2) (gridIn (wordAt ws 3))
 
--- "1: .. 13:12 = 3, 10 = 1, 9 = 0, 5:0 zero, others free".
+-- "1: .. 13:12 = 3, .. 9 = 0, 5:0 zero, others free", and so is bit 10: "PICTURE bit 10 may now be 0", with every type.
 abbrev pub pictureBits1 : ℕ → Bool
-pictureBits1 one = (hasBits one 13 12 3 && hasBits one 10 10 1) && (hasBits one 9 9 0 && zeroBits one 5 0)
+pictureBits1 one = hasBits one 13 12 3 && (hasBits one 9 9 0 && zeroBits one 5 0)
 
 -- The f codes of a reference that the type uses, "1 to 9", and of one that it does not, "15".
 abbrev pub codeInUse : ℕ → Bool

@@ -15,10 +15,12 @@ pub struct Codes {
     pub y: u8,
 }
 
-// What PICTURE says: its coding type (1 I, 2 P, 3 B), the f codes of both references, and its size in macroblocks.
+// What PICTURE says: its coding type (1 I, 2 P, 3 B), the f codes of both references, its size in macroblocks, and whether every
+// macroblock is predicted and transformed as a frame (bit 10 of word 1, under MPEG-2's name).
 pub struct Picture {
     pub coding: u8,
     pub forward: Codes,
     pub backward: Codes,
     pub grid: Grid,
+    pub frame_pred_frame_dct: bool,
 }

@@ -1,6 +1,6 @@
 -- Equal parts make equal wholes, for the proofs of the functions: over plain variables, so that each is checked once.
 use mathlib.Core.Path.{_≡_, refl, sym, ap, ap₂, _∙_}
-use mathlib.Core.Bool.{false}
+use mathlib.Core.Bool.{Bool, false}
 use Prim.Native.Nat.{ℕ, zero, suc, _+_}
 use native.Mathlib.Omega.{arith}
 use borrow.Author.Tests.{lt-leb, lt-ltb}
@@ -30,10 +30,10 @@ same-surface-words {a} {b} {c} {a′} {b′} {c′} ea eb ec = ap (λ (x : ℕ).
 abbrev gridMade : ℕ → ℕ → Grid
 gridMade w h = record { columns = w; rows = h }
 
-abbrev pictureMade : ℕ → ℕ → ℕ → ℕ → ℕ → Grid → Picture
-pictureMade t fx fy bx by g = record { coding = t; forward = codes fx fy; backward = codes bx by; grid = g }
+abbrev pictureMade : ℕ → ℕ → ℕ → ℕ → ℕ → Grid → Bool → Picture
+pictureMade t fx fy bx by g frames = record { coding = t; forward = codes fx fy; backward = codes bx by; grid = g; «frame_pred_frame_dct» = frames }
 
-pub same-picture : {t fx fy bx by w h t′ fx′ fy′ bx′ by′ w′ h′ : ℕ}
+pub same-picture : {t fx fy bx by w h t′ fx′ fy′ bx′ by′ w′ h′ : ℕ} {d d′ : Bool}
     → t ≡ t′
     → fx ≡ fx′
     → fy ≡ fy′
@@ -41,12 +41,14 @@ pub same-picture : {t fx fy bx by w h t′ fx′ fy′ bx′ by′ w′ h′ : �
     → by ≡ by′
     → w ≡ w′
     → h ≡ h′
-    → pictureMade t fx fy bx by (gridMade w h) ≡ pictureMade t′ fx′ fy′ bx′ by′ (gridMade w′ h′)
-same-picture {t} {fx} {fy} {bx} {by} {w} {h} {t′} {fx′} {fy′} {bx′} {by′} {w′} {h′} et efx efy ebx eby ew eh =
-    ap₂ (λ (x y : ℕ). pictureMade t x y bx by (gridMade w h)) efx efy
-    ∙ ap₂ (λ (x y : ℕ). pictureMade t fx′ fy′ x y (gridMade w h)) ebx eby
-    ∙ ap₂ (λ (x y : ℕ). pictureMade t fx′ fy′ bx′ by′ (gridMade x y)) ew eh
-    ∙ ap (λ (x : ℕ). pictureMade x fx′ fy′ bx′ by′ (gridMade w′ h′)) et
+    → d ≡ d′
+    → pictureMade t fx fy bx by (gridMade w h) d ≡ pictureMade t′ fx′ fy′ bx′ by′ (gridMade w′ h′) d′
+same-picture {t} {fx} {fy} {bx} {by} {w} {h} {t′} {fx′} {fy′} {bx′} {by′} {w′} {h′} {d} {d′} et efx efy ebx eby ew eh ed =
+    ap₂ (λ (x y : ℕ). pictureMade t x y bx by (gridMade w h) d) efx efy
+    ∙ ap₂ (λ (x y : ℕ). pictureMade t fx′ fy′ x y (gridMade w h) d) ebx eby
+    ∙ ap₂ (λ (x y : ℕ). pictureMade t fx′ fy′ bx′ by′ (gridMade x y) d) ew eh
+    ∙ ap (λ (x : ℕ). pictureMade x fx′ fy′ bx′ by′ (gridMade w′ h′) d) et
+    ∙ ap (pictureMade t′ fx′ fy′ bx′ by′ (gridMade w′ h′)) ed
 
 pub same-picture-words : {a b c a′ b′ c′ : ℕ} → a ≡ a′ → b ≡ b′ → c ≡ c′ → pictureIn a b (gridIn c) ≡ pictureIn a′ b′ (gridIn c′)
 same-picture-words {a} {b} {c} {a′} {b′} {c′} ea eb ec = ap₂ (λ (x y : ℕ). pictureIn x y (gridIn c)) ea eb ∙ ap (λ (x : ℕ). pictureIn a′ b′ (gridIn x)) ec

@@ -32,6 +32,7 @@ pub fn picture_of(words: &[u32]) -> Picture
         forward,
         backward,
         grid,
+        frame_pred_frame_dct: fields_code::is_set(one, 10),
     }
 }
 
@@ -39,7 +40,7 @@ pub fn picture_of(words: &[u32]) -> Picture
 fn picture_bits1(one: u32) -> bool
     ensures { λ r. ⌜ r ≡ pictureBits1 one ⌝ }
 {
-    let upper = fields_code::has_bits(one, 13, 12, 3) & fields_code::has_bits(one, 10, 10, 1);
+    let upper = fields_code::has_bits(one, 13, 12, 3);
     let lower = fields_code::has_bits(one, 9, 9, 0) & fields_code::has_bits(one, 5, 0, 0);
     upper & lower
 }

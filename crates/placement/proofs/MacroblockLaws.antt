@@ -12,25 +12,26 @@ use Rattle.answers.specs.declared.Answer.the-variants.{Accepted}
 use Rattle.answers.proofs.Judging.{judged-append, both-accept, rule-kept, within-both}
 use Rattle.headers.specs.Words.{wordAt}
 use Rattle.macroblock.specs.Macroblocks.{macroblockOf}
-use Rattle.macroblock.specs.Rules.{commandRules}
+use Rattle.macroblock.specs.Rules.{alone, commandRules}
 use Rattle.macroblock.specs.declared.Macroblock.{Macroblock}
+use Rattle.macroblock.proofs.Allowing.{allowed-alone}
 use Rattle.macroblock.proofs.CommandLaws.{command-within}
 use Rattle.progress.specs.declared.Progress.{Progress}
 use Rattle.placement.specs.Blocks.{blocksOf}
-use Rattle.placement.specs.Placing.{zeroVectors, repeats, placedRules, macroblockRules}
+use Rattle.placement.specs.Placing.{allowedIn, zeroVectors, repeats, placedRules, macroblockRules}
 use Rattle.placement.specs.Progressing.{previousOf, progressAfter, macroblockNext}
 use Rattle.placement.specs.declared.Blocks.{Blocks}
 use Rattle.answers.specs.Tables.{within}
 
 -- the answer, from the answers to the two tables
 pub judged-whole : (p : Progress) (ws : List ℕ) {m : Macroblock} {b : Blocks} {a d f : Answer} → m ≡ macroblockOf ws
-    → b ≡ blocksOf p (m .case) → a ≡ judged (placedRules p b m ws) → d ≡ judged (commandRules ws) → f ≡ earlier a d
+    → b ≡ blocksOf p (m .case) → a ≡ judged (placedRules p b m ws) → d ≡ judged (commandRules (allowedIn (p .picture)) ws) → f ≡ earlier a d
     → f ≡ judged (macroblockRules p ws)
 unfolding macroblockRules
 judged-whole p ws {m} {b} em eb ea ed ef =
     let placed = placedRules p (blocksOf p (macroblockOf ws .case)) (macroblockOf ws) ws in
     let same : placedRules p b m ws ≡ placed = simp (eb, em) in
-    ef ∙ ap₂ earlier (ea ∙ ap judged same) ed ∙ sym (judged-append placed (commandRules ws))
+    ef ∙ ap₂ earlier (ea ∙ ap judged same) ed ∙ sym (judged-append placed (commandRules (allowedIn (p .picture)) ws))
 
 -- the progress after it
 pub next-whole : (p : Progress) (ws : List ℕ) {m : Macroblock} {b : Blocks} {n : Progress} → m ≡ macroblockOf ws
@@ -46,14 +47,16 @@ row-left p ws e =
     ltb-true (p .position .row) (p .picture .grid .rows) (and-right g (ltb (p .position .row) (p .picture .grid .rows)) (rule-kept 3 0 (macroblockRules p ws) e))
 
 -- A macroblock that is accepted keeps the rules of a command read alone.
-pub alone-kept : (p : Progress) (ws : List ℕ) → judged (macroblockRules p ws) ≡ Accepted → judged (commandRules ws) ≡ Accepted
+pub alone-kept : (p : Progress) (ws : List ℕ) → judged (macroblockRules p ws) ≡ Accepted → judged (commandRules alone ws) ≡ Accepted
 unfolding macroblockRules
-alone-kept p ws e = both-accept (placedRules p (blocksOf p (macroblockOf ws .case)) (macroblockOf ws) ws) (commandRules ws) e .1
+alone-kept p ws e =
+    let a = allowedIn (p .picture) in
+    allowed-alone a ws (both-accept (placedRules p (blocksOf p (macroblockOf ws .case)) (macroblockOf ws) ws) (commandRules a ws) e .1)
 
 -- The rules refuse with numbers 1 to 12, at words 0 to 8.
 pub macroblock-within : (p : Progress) (ws : List ℕ) → T (within 12 8 (macroblockRules p ws))
 unfolding macroblockRules placedRules
-macroblock-within p ws = within-both 12 8 (placedRules p (blocksOf p (macroblockOf ws .case)) (macroblockOf ws) ws) (commandRules ws) tt (command-within ws)
+macroblock-within p ws = within-both 12 8 (placedRules p (blocksOf p (macroblockOf ws .case)) (macroblockOf ws) ws) (commandRules (allowedIn (p .picture)) ws) tt (command-within (allowedIn (p .picture)) ws)
 
 -- Words 5 to 8 that are zero are so each by itself, and a macroblock repeats itself.
 pub zero-words : (c : List ℕ) → zeroVectors c ≡ true → (wordAt c 5 ≡ 0) × (wordAt c 6 ≡ 0) × (wordAt c 7 ≡ 0) × (wordAt c 8 ≡ 0)

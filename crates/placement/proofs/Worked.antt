@@ -15,9 +15,9 @@ use Rattle.macroblock.specs.Macroblocks.{macroblockOf}
 use Rattle.macroblock.specs.Rules.{keptBy, fieldRules, vectorRules, commandRules}
 use Rattle.progress.specs.Progress.{fresh}
 use Rattle.progress.specs.declared.Progress.{Progress}
-use Rattle.placement.specs.Blocks.{forwardOf, backwardOf, predicted, blocksOf}
+use Rattle.placement.specs.Blocks.{forwardOf, backwardOf, bottomOf, predicted, blocksOf}
 use Rattle.placement.specs.Examples.{Change, placedExamples, placedChanges}
-use Rattle.placement.specs.Placing.{placedRules, macroblockRules}
+use Rattle.placement.specs.Placing.{allowedIn, placedRules, macroblockRules}
 use Rattle.placement.specs.Progressing.{positionAfter, stageAfter, extentsAfter, progressAfter, macroblockNext}
 
 abbrev table : Progress × List ℕ → List Rule
@@ -31,12 +31,12 @@ placedTable x = placedRules (x .0) (blocksOf (x .0) (macroblockOf (x .1) .case))
 every-example : (found table placedExamples ≡ due placedExamples)
     × (allShown placedExamples (macroblockRules fresh []) ≡ true)
     × (allBroken (found placedTable placedExamples) (placedTable (fresh, [])) ≡ true)
-unfolding placedExamples macroblockRules placedRules blocksOf predicted forwardOf backwardOf fresh
+unfolding placedExamples macroblockRules placedRules blocksOf predicted forwardOf backwardOf bottomOf allowedIn fresh
     commandRules fieldRules vectorRules keptBy macroblockOf caseOf motionOf vectorWords
     vectorOf wordOf vectorInRange blockAt blockExtent joined emptyExtent address
 every-example = (refl, refl, refl)
 
 every-change : map (λ (c : Change). macroblockNext (c .before) (c .words)) placedChanges ≡ map (λ (c : Change). c .after) placedChanges
-unfolding placedChanges macroblockNext progressAfter extentsAfter stageAfter positionAfter blocksOf predicted forwardOf backwardOf
+unfolding placedChanges macroblockNext progressAfter extentsAfter stageAfter positionAfter blocksOf predicted forwardOf backwardOf bottomOf
     macroblockOf caseOf motionOf vectorOf wordOf vectorInRange blockAt blockExtent joined emptyExtent address
 every-change = refl

@@ -19,17 +19,28 @@ use Rattle.progress.specs.declared.Stage.{Stage}
 abbrev pub exampleFrame : Frame
 exampleFrame = record { width = 90; height = 150; surface = record { pitch = 256; «chroma_row» = 160 } }
 
-abbrev pub pictureWith : ℕ → Codes → Codes → Picture
-pictureWith coding forward backward = record { coding = coding; forward = forward; backward = backward; grid = record { columns = 6; rows = 10 } }
+abbrev pub pictureWith : Bool → ℕ → Codes → Codes → Picture
+pictureWith frames coding forward backward =
+    record { coding = coding; forward = forward; backward = backward; grid = record { columns = 6; rows = 10 }; «frame_pred_frame_dct» = frames }
 
 abbrev pub pictureI : Picture
-pictureI = pictureWith 1 (codes 15 15) (codes 15 15)
+pictureI = pictureWith true 1 (codes 15 15) (codes 15 15)
 
 abbrev pub pictureP : Picture
-pictureP = pictureWith 2 (codes 1 2) (codes 15 15)
+pictureP = pictureWith true 2 (codes 1 2) (codes 15 15)
 
 abbrev pub pictureB : Picture
-pictureB = pictureWith 3 (codes 1 2) (codes 3 4)
+pictureB = pictureWith true 3 (codes 1 2) (codes 3 4)
+
+-- The same pictures with bit 10 = 0. A field's forward y goes from −16 to 15.
+abbrev fieldsI : Picture
+fieldsI = pictureWith false 1 (codes 15 15) (codes 15 15)
+
+abbrev fieldsP : Picture
+fieldsP = pictureWith false 2 (codes 1 2) (codes 15 15)
+
+abbrev fieldsB : Picture
+fieldsB = pictureWith false 3 (codes 1 2) (codes 3 4)
 
 -- How far a batch has come behind its first SLICEGROUP: whether a group is open, whether SLICEGROUP came last, whether a slice is
 -- open.
@@ -272,6 +283,99 @@ outsideExamples =
     ∷ breaking 10 6 (untouchedAt pictureB sliceOpen 4 8, macroblockWords 0x200 0x00080004 0 1 (alike 0x00210020))
     ∷ []
 
+-- Type 04h at column 3 and row 5, with these vectors of the top and the bottom field, and of this word 4.
+abbrev fieldVectors : ℕ → ℕ → List ℕ
+fieldVectors top bottom = top ∷ top ∷ bottom ∷ top ∷ []
+
+abbrev fields : ℕ → ℕ → List ℕ
+fields top bottom = inter 0x4401 (fieldVectors top bottom)
+
+abbrev chosen : ℕ → List ℕ
+chosen four = macroblockWords 0x4401 0x00050003 0 four (fieldVectors 0x000F000F 0xFFF0FFF0)
+
+-- Document 02: "type 04h is allowed in P with bit 14 = 1 and bits 1:0 = 1", where bit 10 is 0; "Intra, other types, and 04h where not allowed keep
+-- bits 14 and 1:0 zero"; elsewhere 04h is no type (5), and in I there is none but intra (5).
+abbrev fieldKindExamples : List Judged
+fieldKindExamples =
+    keeping (midSlice fieldsP, fields 0 0)
+    ∷ keeping (midSlice fieldsP, inter 0x100 (alike 0))
+    ∷ breaking 5 1 (midSlice fieldsP, inter 0x200 (alike 0))
+    ∷ breaking 4 1 (midSlice fieldsP, inter 0x400 (alike 0))
+    ∷ breaking 4 1 (midSlice fieldsP, inter 0x4100 (alike 0))
+    ∷ breaking 5 1 (midSlice pictureP, inter 0x400 (alike 0))
+    ∷ record { given = (midSlice pictureP, fields 0 0); breaks = (4, 1) ∷ (5, 1) ∷ [] }
+    ∷ breaking 5 1 (midSlice fieldsB, inter 0x400 (alike 0))
+    ∷ record { given = (midSlice fieldsB, fields 0 0); breaks = (4, 1) ∷ (5, 1) ∷ [] }
+    ∷ record { given = (midSlice fieldsI, inter 0x400 (alike 0)); breaks = (5, 1) ∷ (5, 1) ∷ [] }
+    ∷ record { given = (midSlice fieldsI, fields 0 0); breaks = (5, 1) ∷ (4, 1) ∷ (5, 1) ∷ [] }
+    ∷ breaking 11 1 (midSlice fieldsP, inter 0x4405 (alike 0))
+    ∷ []
+
+-- "bit 15 (dct type) is free on macroblocks that are not skipped", in each type of picture with bit 10 = 0.
+abbrev dctExamples : List Judged
+dctExamples =
+    keeping (midSlice fieldsI, macroblockWords 0xBA00 0x00050003 0xFC0 1 (alike 0))
+    ∷ keeping (midSlice fieldsP, inter 0x8100 (alike 0))
+    ∷ keeping (midSlice fieldsP, inter 0xC401 (alike 0))
+    ∷ keeping (midSlice fieldsB, inter 0x8300 (alike 0))
+    ∷ keeping (midSlice fieldsB, macroblockWords 0xBA00 0x00050003 0xFC0 1 (alike 0))
+    ∷ breaking 4 1 (midSlice fieldsP, inter 0x8104 (alike 0))
+    ∷ breaking 4 1 (following fieldsB (was 1 7 7 7 7), inter 0x8104 (alike 7))
+    ∷ breaking 4 1 (midSlice pictureI, macroblockWords 0xBA00 0x00050003 0xFC0 1 (alike 0))
+    ∷ breaking 4 1 (midSlice pictureP, inter 0x8100 (alike 0))
+    ∷ breaking 4 1 (midSlice pictureB, inter 0x8300 (alike 0))
+    ∷ []
+
+-- "word 4 bits 16 and 18 choose the reference field for the two, 17 and 19 stay zero"; "word 4 bits 16 or 18 set on another type, give 4"
+abbrev choiceExamples : List Judged
+choiceExamples =
+    keeping (midSlice fieldsP, chosen 0x10001)
+    ∷ keeping (midSlice fieldsP, chosen 0x40001)
+    ∷ keeping (midSlice fieldsP, chosen 0x50001)
+    ∷ breaking 4 4 (midSlice fieldsP, chosen 0x20001)
+    ∷ breaking 4 4 (midSlice fieldsP, chosen 0x80001)
+    ∷ breaking 4 4 (midSlice fieldsP, macroblockWords 0x100 0x00050003 0 0x10001 (alike 0))
+    ∷ breaking 4 4 (midSlice fieldsP, intraWith 0x40001)
+    ∷ breaking 4 4 (midSlice pictureP, intraWith 0x10001)
+    ∷ []
+
+-- "Vertical components keep half the f code's range"; "The range and inside tests report word 5 or 7"; "6 and 8 copy 5".
+abbrev fieldRangeExamples : List Judged
+fieldRangeExamples =
+    keeping (midSlice fieldsP, fields 0x000F000F 0xFFF0FFF0)
+    ∷ keeping (midSlice fieldsP, fields 0xFFF0FFF0 0x000F000F)
+    ∷ breaking 9 5 (midSlice fieldsP, fields 0x00000010 0)
+    ∷ breaking 9 5 (midSlice fieldsP, fields 0x00100000 0)
+    ∷ breaking 9 5 (midSlice fieldsP, fields 0xFFEF0000 0)
+    ∷ breaking 9 7 (midSlice fieldsP, fields 0 0x0000FFEF)
+    ∷ breaking 9 7 (midSlice fieldsP, fields 0 0x00100000)
+    ∷ breaking 9 7 (midSlice fieldsP, fields 0 0xFFEF0000)
+    ∷ breaking 8 6 (midSlice fieldsP, inter 0x4401 (7 ∷ 0 ∷ 0 ∷ 7 ∷ []))
+    ∷ breaking 8 8 (midSlice fieldsP, inter 0x4401 (7 ∷ 7 ∷ 9 ∷ 9 ∷ []))
+    ∷ []
+
+-- "inside 8H field rows": half a row above the first and below the last, and half a column to either side; the furthest that is inside from
+-- the last row but one.
+abbrev fieldsTopLeft : ℕ → ℕ → Progress × List ℕ
+fieldsTopLeft top bottom = (untouchedAt fieldsP groupBegins 0 0, macroblockWords 0x4401 0 0 0x41000001 (fieldVectors top bottom))
+
+abbrev fieldsBottomRight : ℕ → ℕ → Progress × List ℕ
+fieldsBottomRight top bottom = (untouchedAt fieldsP sliceOpen 5 9, macroblockWords 0x4401 0x00090005 0 0x84000001 (fieldVectors top bottom))
+
+abbrev fieldOutsideExamples : List Judged
+fieldOutsideExamples =
+    keeping (fieldsTopLeft 0x00010001 0x000F000F)
+    ∷ breaking 10 5 (fieldsTopLeft 0xFFFF0000 0)
+    ∷ breaking 10 5 (fieldsTopLeft 0x0000FFFF 0)
+    ∷ breaking 10 7 (fieldsTopLeft 0 0xFFFF0000)
+    ∷ breaking 10 7 (fieldsTopLeft 0 0x0000FFFF)
+    ∷ keeping (fieldsBottomRight 0xFFFFFFFF 0xFFF0FFF0)
+    ∷ breaking 10 5 (fieldsBottomRight 0x00010000 0)
+    ∷ breaking 10 7 (fieldsBottomRight 0 0x00010000)
+    ∷ breaking 10 7 (fieldsBottomRight 0 0x00000001)
+    ∷ keeping (untouchedAt fieldsP sliceOpen 3 8, macroblockWords 0x4401 0x00080003 0 1 (fieldVectors 0x000F0000 0x000F0000))
+    ∷ []
+
 -- The rules of a command alone are among those of its picture: a fixed bit of words 1, 3 and 4, a pattern, and an intra vector.
 abbrev aloneExamples : List Judged
 aloneExamples =
@@ -294,6 +398,11 @@ placedExamples =
     ++ groupExamples
     ++ rangeExamples
     ++ outsideExamples
+    ++ fieldKindExamples
+    ++ dctExamples
+    ++ choiceExamples
+    ++ fieldRangeExamples
+    ++ fieldOutsideExamples
     ++ aloneExamples
 
 -- A command that is accepted, and how far the batch has come after it.
@@ -344,5 +453,14 @@ pictureEnds =
     change (untouchedAt pictureB sliceOpen 5 9) (macroblockWords 0x200 0x00090005 0 0x84000001 (alike 0x0000FFFC))
     (progressAt pictureB groupClosed 0 10 (was 2 0x0000FFFC 0x0000FFFC 0x0000FFFC 0x0000FFFC) (touched (window 35584 60160) (window 35584 60160) noWindow (window 35086 60158)))
 
+-- Two fields: the top field's vector (3, −5) in the bottom field, luma from field row 37, so row 75, to 45, so row 91, and chroma (1, −2) from
+-- field row 19, so row 160 + 39, to 22, so row 160 + 45; the bottom field's (−7, 11) in the top field, luma from field row 45, so row 90, to 53,
+-- so row 106, and chroma (−3, 5) from field row 22, so row 160 + 44, to 26, so row 160 + 52. The first byte is 44 of row 90, 2·8192 + 2·512 +
+-- 26·16 + 12, the last Cr's byte 65 of row 205, 6·8192 + 4·512 + 13·16 + 1.
+abbrev fromFields : Change
+fromFields =
+    change (midSlice fieldsP) (macroblockWords 0x4401 0x00050003 0 0x10001 (fieldVectors 0xFFFB0003 0x000BFFF9))
+    (progressAt fieldsP sliceOpen 4 5 (was 4 0xFFFB0003 0xFFFB0003 0x000BFFF9 0xFFFB0003) (touched (window 18176 50944) (window 18176 50944) (window 17836 51410) noWindow))
+
 unfoldable pub placedChanges : List Change
-placedChanges = begun ∷ betweenBoth ∷ skipped ∷ rowEnds ∷ pictureEnds ∷ []
+placedChanges = begun ∷ betweenBoth ∷ skipped ∷ rowEnds ∷ pictureEnds ∷ fromFields ∷ []

@@ -11,8 +11,10 @@ use Rattle.macroblock.specs.Cases.{motionOf}
 use Rattle.headers.specs.Words.{wordAt}
 use Rattle.macroblock.specs.Macroblocks.{macroblockOf}
 use Rattle.macroblock.specs.Rules.{commandRules}
+use Rattle.macroblock.specs.declared.Allowed.{Allowed}
 use Rattle.macroblock.specs.declared.Flags.{Flags}
 use Rattle.macroblock.specs.declared.Macroblock.{Macroblock}
+use Rattle.picture.specs.declared.Picture.{Picture}
 use Rattle.progress.specs.declared.Previous.{Previous}
 use Rattle.progress.specs.declared.Progress.{Progress}
 use Rattle.progress.specs.declared.Stage.{Stage}
@@ -27,9 +29,14 @@ exactly a b = (a && b) || (not a && not b)
 abbrev pub inSequence : Stage → Grid → Position → Bool
 inSequence s g at = s .«in_group» && ltb (at .row) (g .rows)
 
--- "I allows intra only, P intra and 1, B all." Kind 0 is intra; coding is 1 for I, 2 for P, 3 for B.
+-- "I allows intra only, P intra and 1, B all." Kind 0 is intra; coding is 1 for I, 2 for P, 3 for B. Document 02, R-6: "type 04h is allowed in
+-- P"; whether it is allowed at all is asked of the picture (`allowedIn`).
 abbrev pub codingPermits : ℕ → ℕ → Bool
-codingPermits coding kind = eqb kind 0 || ((eqb coding 2 && eqb kind 1) || eqb coding 3)
+codingPermits coding kind = eqb kind 0 || ((eqb coding 2 && (eqb kind 1 || eqb kind 4)) || eqb coding 3)
+
+-- "PICTURE bit 10 may now be 0; then word 1 bit 15 (dct type) is free on macroblocks that are not skipped, and type 04h is allowed in P".
+unfoldable pub allowedIn : Picture → Allowed
+allowedIn p = record { «dct_type» = not (p .«frame_pred_frame_dct»); field = not (p .«frame_pred_frame_dct») && eqb (p .coding) 2 }
 
 -- "Skip: .. in P words 5 to 8 all zero"
 abbrev pub zeroVectors : List ℕ → Bool
@@ -61,7 +68,7 @@ conversionPermitted coding f = not (eqb coding 1) || not (f .«no_skip_conversio
 
 -- The table, of a macroblock with these blocks: number, word, and whether the rule holds. "3 out of sequence: header"; "6 wrong
 -- position: word 2"; "7 slice or group flag: word 4"; "9 vector beyond f code: word 5 or 6"; "10 luma block outside picture: word 5
--- or 6"; "11 skip rule: word 1".
+-- or 6"; "11 skip rule: word 1". Document 02: "The range and inside tests report word 5 or 7."
 unfoldable pub placedRules : Progress → Blocks → Macroblock → List ℕ → List Rule
 placedRules p b m ws =
     rule 3 0 (inSequence (p .stage) (p .picture .grid) (p .position))
@@ -74,8 +81,10 @@ placedRules p b m ws =
     ∷ rule 10 5 (b .forward .inside)
     ∷ rule 9 6 (b .backward .«in_range»)
     ∷ rule 10 6 (b .backward .inside)
+    ∷ rule 9 7 (b .bottom .«in_range»)
+    ∷ rule 10 7 (b .bottom .inside)
     ∷ []
 
 -- All rules of a MACROBLOCK command: those of its picture and those that it keeps by itself, in the order of words and numbers.
 unfoldable pub macroblockRules : Progress → List ℕ → List Rule
-macroblockRules p ws = placedRules p (blocksOf p (macroblockOf ws .case)) (macroblockOf ws) ws ++ commandRules ws
+macroblockRules p ws = placedRules p (blocksOf p (macroblockOf ws .case)) (macroblockOf ws) ws ++ commandRules (allowedIn (p .picture)) ws

@@ -57,7 +57,7 @@ extentsAfter e b =
     record {
       source = joined (e .source) (b .own);
       reconstructed = joined (e .reconstructed) (b .own);
-      forward = joined (e .forward) (b .forward .extent);
+      forward = joined (joined (e .forward) (b .forward .extent)) (b .bottom .extent);
       backward = joined (e .backward) (b .backward .extent);
     }
 

@@ -16,9 +16,11 @@ pub struct Predicted {
     pub extent: Extent,
 }
 
-// What a macroblock touches: its own samples, and its predicted blocks.
+// What a macroblock touches: its own samples, and its predicted blocks. A field prediction has two in the forward reference: the top field's
+// is `forward`, the bottom field's `bottom`.
 pub struct Blocks {
     pub own: Extent,
     pub forward: Predicted,
     pub backward: Predicted,
+    pub bottom: Predicted,
 }

@@ -20,7 +20,7 @@ pub fn judge_macroblock(progress: Progress, words: &[u32]) -> Verdict
     let blocks = touching::blocks_of(progress, case);
     let fault = answers_code::earlier(
         placing::placed_fault(progress, blocks, macroblock, words),
-        macroblock_code::fault_of(words),
+        macroblock_code::fault_of(placing::allowed_in(progress.picture), words),
     );
     if let Answer::Refused(number, word) = fault {
         return Verdict::Stop(number, word);

@@ -1,7 +1,9 @@
 // Whether a macroblock keeps the rules of its picture.
 use answers::Answer;
+use macroblock::Allowed;
 use macroblock::Flags;
 use macroblock::Macroblock;
+use picture::Picture;
 use placement::Blocks;
 use prediction::Grid;
 use prediction::Position;
@@ -10,7 +12,7 @@ use progress::Progress;
 use progress::Stage;
 ghost use mathlib.Core.Path.{_≡_};
 ghost use Rattle.answers.specs.Answers.{judged};
-ghost use Rattle.placement.specs.Placing.{exactly, codingPermits, zeroVectors, repeats, skipPermitted, conversionPermitted, flagsAgree, placedRules};
+ghost use Rattle.placement.specs.Placing.{exactly, codingPermits, allowedIn, zeroVectors, repeats, skipPermitted, conversionPermitted, flagsAgree, placedRules};
 
 fn exactly(a: bool, b: bool) -> bool
     ensures { λ r. ⌜ r ≡ exactly a b ⌝ }
@@ -21,7 +23,18 @@ fn exactly(a: bool, b: bool) -> bool
 fn coding_permits(coding: u8, kind: u8) -> bool
     ensures { λ r. ⌜ r ≡ codingPermits coding kind ⌝ }
 {
-    (kind == 0) | (((coding == 2) & (kind == 1)) | (coding == 3))
+    (kind == 0) | (((coding == 2) & ((kind == 1) | (kind == 4))) | (coding == 3))
+}
+
+// What a picture allows.
+pub fn allowed_in(picture: Picture) -> Allowed
+    ensures { λ r. ⌜ r ≡ allowedIn picture ⌝ }
+{
+    let fields = !picture.frame_pred_frame_dct;
+    Allowed {
+        dct_type: fields,
+        field: fields & (picture.coding == 2),
+    }
 }
 
 // Whether words 5 to 8 are zero.
@@ -106,5 +119,7 @@ pub(crate) fn placed_fault(
     let a = answers_code::unless(a, 9, 5, blocks.forward.in_range);
     let a = answers_code::unless(a, 10, 5, blocks.forward.inside);
     let a = answers_code::unless(a, 9, 6, blocks.backward.in_range);
-    answers_code::unless(a, 10, 6, blocks.backward.inside)
+    let a = answers_code::unless(a, 10, 6, blocks.backward.inside);
+    let a = answers_code::unless(a, 9, 7, blocks.bottom.in_range);
+    answers_code::unless(a, 10, 7, blocks.bottom.inside)
 }

@@ -73,6 +73,7 @@ fn extents_after(extents: Extents, blocks: Blocks) -> Extents
     let source = extents::join(extents.source, own);
     let reconstructed = extents::join(extents.reconstructed, own);
     let forward = extents::join(extents.forward, blocks.forward.extent);
+    let forward = extents::join(forward, blocks.bottom.extent);
     let backward = extents::join(extents.backward, blocks.backward.extent);
     Extents {
         source,

@@ -18,7 +18,17 @@ ghost use mathlib.Core.Path.{_≡_};
 ghost use Rattle.prediction.specs.Blocks.{blockAt};
 ghost use Rattle.prediction.specs.Vectors.{still};
 ghost use Rattle.prediction.specs.declared.Structure.the-variants.{Frame};
-ghost use Rattle.placement.specs.Blocks.{forwardOf, backwardOf, extentIn, predictedIn, predicted, blocksOf};
+ghost use Rattle.placement.specs.Blocks.{fieldOf, forwardOf, backwardOf, bottomOf, extentIn, predictedIn, predicted, blocksOf};
+
+// The field that is chosen.
+fn field_of(bottom: bool) -> Structure
+    ensures { λ r. ⌜ r ≡ fieldOf bottom ⌝ }
+{
+    if bottom {
+        return Structure::BottomField;
+    }
+    Structure::TopField
+}
 
 fn forward_of(case: Case) -> Reference
     ensures { λ r. ⌜ r ≡ forwardOf case ⌝ }
@@ -29,6 +39,7 @@ fn forward_of(case: Case) -> Reference
             Prediction::Forward(vector) => Reference::At(Structure::Frame, vector),
             Prediction::Backward(_) => Reference::Unused,
             Prediction::Both(vector, _) => Reference::At(Structure::Frame, vector),
+            Prediction::Field(vector, _, bottom, _) => Reference::At(field_of(bottom), vector),
         },
     }
 }
@@ -42,6 +53,21 @@ fn backward_of(case: Case) -> Reference
             Prediction::Forward(_) => Reference::Unused,
             Prediction::Backward(vector) => Reference::At(Structure::Frame, vector),
             Prediction::Both(_, vector) => Reference::At(Structure::Frame, vector),
+            Prediction::Field(_, _, _, _) => Reference::Unused,
+        },
+    }
+}
+
+fn bottom_of(case: Case) -> Reference
+    ensures { λ r. ⌜ r ≡ bottomOf case ⌝ }
+{
+    match case {
+        Case::Intra => Reference::Unused,
+        Case::Inter(by) => match by {
+            Prediction::Forward(_) => Reference::Unused,
+            Prediction::Backward(_) => Reference::Unused,
+            Prediction::Both(_, _) => Reference::Unused,
+            Prediction::Field(_, vector, _, bottom) => Reference::At(field_of(bottom), vector),
         },
     }
 }
@@ -127,9 +153,17 @@ pub(crate) fn blocks_of(progress: Progress, case: Case) -> Blocks
         progress.picture.backward,
         backward_of(case),
     );
+    let bottom = predicted(
+        surface,
+        grid,
+        position,
+        progress.picture.forward,
+        bottom_of(case),
+    );
     Blocks {
         own,
         forward,
         backward,
+        bottom,
     }
 }

@@ -1,6 +1,6 @@
 -- How far a batch has come.
 -- To be believed: that nothing has come at first.
-use mathlib.Core.Bool.{false}
+use mathlib.Core.Bool.{true, false}
 use Rattle.prediction.specs.Extents.{emptyExtent}
 use Rattle.answers.specs.declared.Answer.{Answer}
 use Rattle.answers.specs.declared.Answer.the-variants.{Accepted, Refused}
@@ -29,6 +29,7 @@ fresh =
             forward = record { x = 0; y = 0 };
             backward = record { x = 0; y = 0 };
             grid = record { columns = 0; rows = 0 };
+            «frame_pred_frame_dct» = true;
           };
       position = record { column = 0; row = 0 };
       previous = record { kind = 0; five = 0; six = 0; seven = 0; eight = 0 };

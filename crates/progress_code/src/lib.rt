@@ -42,6 +42,7 @@ pub fn fresh() -> Progress
             columns: 0,
             rows: 0,
         },
+        frame_pred_frame_dct: true,
     };
     let previous = Previous {
         kind: 0,

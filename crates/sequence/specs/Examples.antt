@@ -1,5 +1,5 @@
 -- Worked examples of commands in the sequence of a batch, by their headers.
--- To be believed: numbers and places are document 01's own.
+-- To be believed: numbers and places are document 01's own, and of PICTURE's bit 10 document 02's (R-6).
 use Prim.Native.Nat.{ℕ}
 use mathlib.Core.Bool.{Bool, true, false}
 use mathlib.Core.List.{List, [], _∷_}
@@ -8,6 +8,7 @@ use Rattle.answers.specs.Examples.{keeping, breaking}
 use Rattle.headers.specs.declared.Header.{Header}
 use Rattle.headers.specs.declared.Header.the-variants.{Known, Carried}
 use Rattle.headers.specs.declared.Opcode.the-variants.{Noop, End, Surface, Picture, SliceGroup, Macroblock}
+use Rattle.picture.specs.Pictures.{codes}
 use Rattle.progress.specs.Progress.{fresh}
 use Rattle.progress.specs.declared.Extents.{Extents}
 use Rattle.progress.specs.declared.Progress.{Progress}
@@ -43,6 +44,21 @@ surfaceCome = unpictured (idleStage true false false false)
 
 abbrev pictureCome : Progress
 pictureCome = unbegun (idleStage true true false false)
+
+-- PICTURE has come with bit 10 zero.
+abbrev adaptivePictureCome : Progress
+adaptivePictureCome =
+    untouchedAt
+    (record {
+      coding = 3;
+      forward = codes 1 2;
+      backward = codes 3 4;
+      grid = record { columns = 6; rows = 10 };
+      «frame_pred_frame_dct» = false;
+    })
+    (idleStage true true false false)
+    0
+    0
 
 -- Behind PICTURE: at a column and a row, after a forward macroblock.
 abbrev touchedBefore : Extents
@@ -84,6 +100,10 @@ surfaceWords = 0x70010004 ∷ 0 ∷ 0x02540590 ∷ 0x480007FB ∷ 0xA0 ∷ 0 ∷
 abbrev pictureWords : List ℕ
 pictureWords = 0x7300000B ∷ 0x43213400 ∷ 0x600 ∷ 0x00090005 ∷ replicate 9 0
 
+-- .. with bit 10 zero.
+abbrev adaptivePictureWords : List ℕ
+adaptivePictureWords = 0x7300000B ∷ 0x43213000 ∷ 0x600 ∷ 0x00090005 ∷ replicate 9 0
+
 abbrev groupWords : List ℕ
 groupWords = 0x73430006 ∷ replicate 7 0
 
@@ -114,16 +134,19 @@ surfaces =
     ∷ breaking 4 4 (noneCome, 0x70010004 ∷ 0 ∷ 0x02540590 ∷ 0x480007FB ∷ 0x80A0 ∷ 0 ∷ [])
     ∷ []
 
--- "PICTURE once, after it", and its rules: bit 10 of word 1 zero, a type that is none, a column too many for the surface. Without a
--- surface no size fits (5).
+-- "PICTURE once, after it", and its rules: bit 9 of word 1, a type that is none, a column too many for the surface. Without a
+-- surface no size fits (5). Document 02 (R-6): "PICTURE bit 10 may now be 0".
 unfoldable pub pictures : List Judged
 pictures =
     keeping (surfaceCome, pictureWords)
+    ∷ keeping (surfaceCome, adaptivePictureWords)
     ∷ record { given = (noneCome, pictureWords); breaks = (3, 0) ∷ (5, 3) ∷ [] }
     ∷ breaking 3 0 (unpictured (idleStage false false false false), pictureWords)
     ∷ breaking 3 0 (pictureCome, pictureWords)
+    ∷ breaking 3 0 (pictureCome, adaptivePictureWords)
+    ∷ breaking 3 0 (adaptivePictureCome, pictureWords)
     ∷ breaking 3 0 (allCome, pictureWords)
-    ∷ breaking 4 1 (surfaceCome, 0x7300000B ∷ 0x43213000 ∷ 0x600 ∷ 0x00090005 ∷ replicate 9 0)
+    ∷ breaking 4 1 (surfaceCome, 0x7300000B ∷ 0x43213600 ∷ 0x600 ∷ 0x00090005 ∷ replicate 9 0)
     ∷ breaking 5 2 (surfaceCome, 0x7300000B ∷ 0x43213400 ∷ 0 ∷ 0x00090005 ∷ replicate 9 0)
     ∷ breaking 5 3 (surfaceCome, 0x7300000B ∷ 0x43213400 ∷ 0x600 ∷ 0x00090006 ∷ replicate 9 0)
     ∷ []
@@ -195,6 +218,7 @@ sequenceChanges =
     ∷ (Carried 5, change pictureCome carriedWords pictureCome)
     ∷ (Known Surface 6, change noneCome surfaceWords surfaceCome)
     ∷ (Known Picture 13, change surfaceCome pictureWords pictureCome)
+    ∷ (Known Picture 13, change surfaceCome adaptivePictureWords adaptivePictureCome)
     ∷ (Known SliceGroup 8, change pictureCome groupWords groupCome)
     ∷ (Known SliceGroup 8, change groupOver groupWords (comeTo groupBegins 0 5))
     ∷ (Known Macroblock 9, change midway (intraWith 0x84000001) (progressAt pictureB groupClosed 4 5 wasNone touchedBefore))

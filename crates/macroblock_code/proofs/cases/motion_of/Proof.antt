@@ -8,6 +8,9 @@ use Rattle.macroblock_code.proofs.cases.motion_of.Tie as tie
 enum-told : tie.Need-enum-told
 enum-told c = search needs
 
+frame-motion-requires : tie.Need-frame-motion-requires
+frame-motion-requires c κs = search needs
+
 enum-known-case : tie.Need-enum-known-case
 enum-known-case c = search needs
 
@@ -16,11 +19,18 @@ inter-motion-requires c κs = search needs
 
 returns : tie.Need-returns
 unfolding motionOf
-returns c = ap motionOf (sym (c .enum-told .given .1))
+returns c = c .frame-motion .ensures ∙ ap motionOf (sym (c .before .enum-told .given .1))
 
 returns-2 : tie.Need-returns-2
 returns-2 c = c .inter-motion .ensures ∙ ap motionOf (sym (c .before .before .case .given .1))
 
 pub motion-of-spec : {M : Type 1} → statement M
 motion-of-spec =
-    tie.close (tie.spec enum-told enum-known-case inter-motion-requires returns returns-2)
+    tie.close
+    (tie.spec
+    enum-told
+    frame-motion-requires
+    enum-known-case
+    inter-motion-requires
+    returns
+    returns-2)

@@ -32,7 +32,7 @@ returns c =
       c .before .before .field-fault .ensures,
       c .before .before .before .kept-by .ensures,
       c .before .before .before .before .macroblock-of .ensures,
-    ) (sym (judged-append (fieldRules (keptBy (macroblockOf (now (c .before .before .before .before .before .before .args .words)))) (now (c .before .before .before .before .before .before .args .words))) (vectorRules (now (c .before .before .before .before .before .before .args .words)))))
+    ) (sym (judged-append (fieldRules (c .before .before .before .before .before .before .args .allowed) (keptBy (macroblockOf (now (c .before .before .before .before .before .before .args .words)))) (now (c .before .before .before .before .before .before .args .words))) (vectorRules (now (c .before .before .before .before .before .before .args .words)))))
 
 pub fault-of-spec : {M : Type 1} → statement M
 fault-of-spec =

@@ -18,6 +18,9 @@ word-at-requires-3 c κs = search needs
 type-permitted-requires : tie.Need-type-permitted-requires
 type-permitted-requires c κs = search needs
 
+field-in-requires : tie.Need-field-in-requires
+field-in-requires c κs = search needs
+
 fixed1-requires : tie.Need-fixed1-requires
 fixed1-requires c κs = search needs
 
@@ -62,11 +65,12 @@ returns c =
       c .before .before .before .before .before .before .before .unless2 .ensures,
       c .before .before .before .before .before .before .before .before .unless .ensures,
       c .before .before .before .before .before .before .before .before .before .fixed1 .ensures,
-      c .before .before .before .before .before .before .before .before .before .before .before .before .type-permitted .ensures,
-      c .before .before .before .before .before .before .before .before .before .before .before .before .before .word-at3 .ensures,
-      c .before .before .before .before .before .before .before .before .before .before .before .before .before .before .word-at2 .ensures,
-      c .before .before .before .before .before .before .before .before .before .before .before .before .before .before .before .word-at .ensures,
-    ) (in-turn (fieldRules (c .before .before .before .before .before .before .before .before .before .before .before .before .before .before .before .before .before .args .kept) (now (c .before .before .before .before .before .before .before .before .before .before .before .before .before .before .before .before .before .args .words))) tt)
+      c .before .before .before .before .before .before .before .before .before .before .field-in .ensures,
+      c .before .before .before .before .before .before .before .before .before .before .before .before .before .before .type-permitted .ensures,
+      c .before .before .before .before .before .before .before .before .before .before .before .before .before .before .before .word-at3 .ensures,
+      c .before .before .before .before .before .before .before .before .before .before .before .before .before .before .before .before .word-at2 .ensures,
+      c .before .before .before .before .before .before .before .before .before .before .before .before .before .before .before .before .before .word-at .ensures,
+    ) (in-turn (fieldRules (c .before .before .before .before .before .before .before .before .before .before .before .before .before .before .before .before .before .before .before .args .allowed) (c .before .before .before .before .before .before .before .before .before .before .before .before .before .before .before .before .before .before .before .args .kept) (now (c .before .before .before .before .before .before .before .before .before .before .before .before .before .before .before .before .before .before .before .args .words))) tt)
 
 pub field-fault-spec : {M : Type 1} → statement M
 field-fault-spec =
@@ -76,6 +80,7 @@ field-fault-spec =
     word-at-requires-2
     word-at-requires-3
     type-permitted-requires
+    field-in-requires
     fixed1-requires
     unless-requires
     unless-requires-2

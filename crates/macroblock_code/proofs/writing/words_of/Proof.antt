@@ -4,7 +4,9 @@ use mathlib.Core.List.{List}
 use Prim.Native.Nat.{ℕ}
 use Rattle.fields.specs.Bytes.{elements}
 use Rattle.macroblock.specs.Cases.{vectorWords}
-use Rattle.macroblock.specs.Macroblocks.{wordsOf}
+use Rattle.fields.specs.Word.{packed}
+use Rattle.macroblock.specs.Macroblocks.{fields4, wordsOf}
+use Rattle.macroblock.specs.declared.Motion.{Motion}
 use Rattle.macroblock.proofs.CaseLaws.{vectors-listed}
 use Rattle.macroblock.proofs.Congruence.{same-words}
 use borrow.Author.Needs.{needs}
@@ -48,7 +50,7 @@ returns c =
     let m = c .before .before .before .before .before .motion-of .ensures in
     let listed : elements (v .result) 0 4 ≡ v .result = subst (λ (ws : List ℕ). elements ws 0 4 ≡ ws) (sym (v .ensures)) (vectors-listed _) in
     let one = c .before .before .before .word1-of .ensures in
-    same-words (one ∙ simp m) (c .before .before .word2-of .ensures) (c .before .word3-of .ensures) (c .word4-of .ensures)
+    same-words (one ∙ simp m) (c .before .before .word2-of .ensures) (c .before .word3-of .ensures) (c .word4-of .ensures ∙ ap (λ (n : Motion). packed (fields4 n (c .before .before .before .before .before .before .args .macroblock))) m)
     (listed ∙ v .ensures ∙ ap vectorWords m)
 
 pub words-of-spec : {M : Type 1} → statement M

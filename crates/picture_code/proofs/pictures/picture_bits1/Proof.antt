@@ -13,11 +13,8 @@ has-bits-requires-2 c κs = search needs
 has-bits-requires-3 : tie.Need-has-bits-requires-3
 has-bits-requires-3 c κs = search needs
 
-has-bits-requires-4 : tie.Need-has-bits-requires-4
-has-bits-requires-4 c κs = search needs
-
 returns : tie.Need-returns
-returns c = same-both (same-both (c .before .before .before .has-bits .ensures) (c .before .before .has-bits2 .ensures)) (same-both (c .before .has-bits3 .ensures) (c .has-bits4 .ensures))
+returns c = same-both (c .before .before .has-bits .ensures) (same-both (c .before .has-bits2 .ensures) (c .has-bits3 .ensures))
 
 pub picture-bits1-spec : {M : Type 1} → statement M
 picture-bits1-spec =
@@ -26,5 +23,4 @@ picture-bits1-spec =
     has-bits-requires
     has-bits-requires-2
     has-bits-requires-3
-    has-bits-requires-4
     returns)

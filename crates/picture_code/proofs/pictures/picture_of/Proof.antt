@@ -63,18 +63,22 @@ bits-requires-7 c κs = search needs
 cast-t9-3 : tie.Need-cast-t9-3
 cast-t9-3 c = search needs
 
+is-set-requires : tie.Need-is-set-requires
+is-set-requires c κs = search needs
+
 returns : tie.Need-returns
 unfolding pictureOf
 returns c =
     same-picture
-    (c .bits7 .ensures)
-    (c .before .before .before .before .before .before .bits .ensures)
-    (c .before .before .before .before .before .bits2 .ensures)
-    (c .before .before .before .before .bits3 .ensures)
-    (c .before .before .before .bits4 .ensures)
-    (next (c .before .before .bits5 .ensures))
-    (next (c .before .bits6 .ensures))
-    ∙ same-picture-words (c .before .before .before .before .before .before .before .before .before .word-at .ensures) (c .before .before .before .before .before .before .before .before .word-at2 .ensures) (c .before .before .before .before .before .before .before .word-at3 .ensures)
+    (c .before .bits7 .ensures)
+    (c .before .before .before .before .before .before .before .bits .ensures)
+    (c .before .before .before .before .before .before .bits2 .ensures)
+    (c .before .before .before .before .before .bits3 .ensures)
+    (c .before .before .before .before .bits4 .ensures)
+    (next (c .before .before .before .bits5 .ensures))
+    (next (c .before .before .bits6 .ensures))
+    (c .is-set .ensures)
+    ∙ same-picture-words (c .before .before .before .before .before .before .before .before .before .before .word-at .ensures) (c .before .before .before .before .before .before .before .before .before .word-at2 .ensures) (c .before .before .before .before .before .before .before .before .word-at3 .ensures)
 
 pub picture-of-spec : {M : Type 1} → statement M
 picture-of-spec =
@@ -99,4 +103,5 @@ picture-of-spec =
     cast-t15
     bits-requires-7
     cast-t9-3
+    is-set-requires
     returns)

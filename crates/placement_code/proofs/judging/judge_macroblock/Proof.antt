@@ -3,6 +3,8 @@ use mathlib.Core.Path.{_≡_, sym, _∙_, ap}
 use denote.Ref.{now}
 use Rattle.answers.specs.Answers.{judged}
 use Rattle.answers.specs.declared.Answer.{Answer}
+use Rattle.macroblock.specs.Rules.{commandRules}
+use Rattle.macroblock.specs.declared.Allowed.{Allowed}
 use Rattle.progress.specs.Progress.{concluded}
 use Rattle.progress.specs.declared.Verdict.the-variants.{Next}
 use Rattle.placement.specs.Placing.{macroblockRules}
@@ -12,14 +14,17 @@ use borrow.Author.Needs.{needs}
 use Rattle.placement_code.proofs.judging.judge_macroblock.Statement.{statement}
 use Rattle.placement_code.proofs.judging.judge_macroblock.Tie as tie
 
-fault-is : (c : tie.After-earlier) → c .earlier .result ≡ judged (macroblockRules (c .before .before .before .before .before .before .args .progress) (now (c .before .before .before .before .before .before .args .words)))
+fault-is : (c : tie.After-earlier)
+    → let s = c .before .before .before .before .before .before .before in
+    c .earlier .result ≡ judged (macroblockRules (s .args .progress) (now (s .args .words)))
 fault-is c =
-    let s = c .before .before .before .before .before .before in
+    let d = c .before .before .before in
+    let s = d .before .before .before .before in
     judged-whole (s .args .progress) (now (s .args .words))
-    (c .before .before .before .before .macroblock-of .ensures)
-    (c .before .before .before .blocks-of .ensures)
-    (c .before .before .placed-fault .ensures)
-    (c .before .fault-of .ensures)
+    (d .before .before .macroblock-of .ensures)
+    (d .before .blocks-of .ensures)
+    (d .placed-fault .ensures)
+    (c .before .fault-of .ensures ∙ ap (λ (a : Allowed). judged (commandRules a (now (s .args .words)))) (c .before .before .allowed-in .ensures))
     (c .earlier .ensures)
 
 macroblock-of-requires : tie.Need-macroblock-of-requires
@@ -30,6 +35,9 @@ blocks-of-requires c κs = search needs
 
 placed-fault-requires : tie.Need-placed-fault-requires
 placed-fault-requires c κs = search needs
+
+allowed-in-requires : tie.Need-allowed-in-requires
+allowed-in-requires c κs = search needs
 
 fault-of-requires : tie.Need-fault-of-requires
 fault-of-requires c κs = search needs
@@ -43,7 +51,7 @@ enum-known-fault c = search needs
 returns : tie.Need-returns
 returns c =
     let e = c .before .before .before in
-    let s = e .before .before .before .before .before .before in
+    let s = e .before .before .before .before .before .before .before in
     ap (λ (a : Answer). concluded a (macroblockNext (s .args .progress) (now (s .args .words)))) (sym (c .before .fault .given .1) ∙ fault-is e)
 
 enum-told : tie.Need-enum-told
@@ -55,10 +63,10 @@ progress-after-requires c κs = search needs
 returns-2 : tie.Need-returns-2
 returns-2 c =
     let e = c .before .before .before in
-    let s = e .before .before .before .before .before .before in
+    let s = e .before .before .before .before .before .before .before in
     ap Next (next-whole (s .args .progress) (now (s .args .words))
-    (e .before .before .before .before .macroblock-of .ensures)
-    (e .before .before .before .blocks-of .ensures)
+    (e .before .before .before .before .before .macroblock-of .ensures)
+    (e .before .before .before .before .blocks-of .ensures)
     (c .progress-after .ensures))
     ∙ ap (λ (a : Answer). concluded a (macroblockNext (s .args .progress) (now (s .args .words)))) (sym (c .before .enum-told .given .1) ∙ fault-is e)
 
@@ -69,6 +77,7 @@ judge-macroblock-spec =
     macroblock-of-requires
     blocks-of-requires
     placed-fault-requires
+    allowed-in-requires
     fault-of-requires
     earlier-requires
     enum-known-fault

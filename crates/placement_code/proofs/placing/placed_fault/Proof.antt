@@ -51,26 +51,34 @@ unless-requires-9 c κs = search needs
 unless-requires-10 : tie.Need-unless-requires-10
 unless-requires-10 c κs = search needs
 
+unless-requires-11 : tie.Need-unless-requires-11
+unless-requires-11 c κs = search needs
+
+unless-requires-12 : tie.Need-unless-requires-12
+unless-requires-12 c κs = search needs
+
 returns : tie.Need-returns
 unfolding placedRules
 returns c =
     rw (
-      c .unless10 .ensures,
-      c .before .unless9 .ensures,
-      c .before .before .unless8 .ensures,
-      c .before .before .before .unless7 .ensures,
-      c .before .before .before .before .unless6 .ensures,
-      c .before .before .before .before .before .flags-agree .ensures,
-      c .before .before .before .before .before .before .unless5 .ensures,
-      c .before .before .before .before .before .before .before .conversion-permitted .ensures,
-      c .before .before .before .before .before .before .before .before .unless4 .ensures,
-      c .before .before .before .before .before .before .before .before .before .unless3 .ensures,
-      c .before .before .before .before .before .before .before .before .before .before .unless2 .ensures,
-      c .before .before .before .before .before .before .before .before .before .before .before .coding-permits .ensures,
-      c .before .before .before .before .before .before .before .before .before .before .before .before .unless .ensures,
-      c .before .before .before .before .before .before .before .before .before .before .before .before .before .before .before .before .before .before .before .before .skip-permitted .ensures,
-      c .before .before .before .before .before .before .before .before .before .before .before .before .before .before .before .before .before .before .before .before .before .before .motion-of .ensures,
-    ) (in-turn (placedRules (c .before .before .before .before .before .before .before .before .before .before .before .before .before .before .before .before .before .before .before .before .before .before .before .before .before .before .before .before .before .args .progress) (c .before .before .before .before .before .before .before .before .before .before .before .before .before .before .before .before .before .before .before .before .before .before .before .before .before .before .before .before .before .args .blocks) (c .before .before .before .before .before .before .before .before .before .before .before .before .before .before .before .before .before .before .before .before .before .before .before .before .before .before .before .before .before .args .macroblock) (now (c .before .before .before .before .before .before .before .before .before .before .before .before .before .before .before .before .before .before .before .before .before .before .before .before .before .before .before .before .before .args .words))) tt)
+      c .unless12 .ensures,
+      c .before .unless11 .ensures,
+      c .before .before .unless10 .ensures,
+      c .before .before .before .unless9 .ensures,
+      c .before .before .before .before .unless8 .ensures,
+      c .before .before .before .before .before .unless7 .ensures,
+      c .before .before .before .before .before .before .unless6 .ensures,
+      c .before .before .before .before .before .before .before .flags-agree .ensures,
+      c .before .before .before .before .before .before .before .before .unless5 .ensures,
+      c .before .before .before .before .before .before .before .before .before .conversion-permitted .ensures,
+      c .before .before .before .before .before .before .before .before .before .before .unless4 .ensures,
+      c .before .before .before .before .before .before .before .before .before .before .before .unless3 .ensures,
+      c .before .before .before .before .before .before .before .before .before .before .before .before .unless2 .ensures,
+      c .before .before .before .before .before .before .before .before .before .before .before .before .before .coding-permits .ensures,
+      c .before .before .before .before .before .before .before .before .before .before .before .before .before .before .unless .ensures,
+      c .before .before .before .before .before .before .before .before .before .before .before .before .before .before .before .before .before .before .before .before .before .before .skip-permitted .ensures,
+      c .before .before .before .before .before .before .before .before .before .before .before .before .before .before .before .before .before .before .before .before .before .before .before .before .motion-of .ensures,
+    ) (in-turn (placedRules (c .before .before .before .before .before .before .before .before .before .before .before .before .before .before .before .before .before .before .before .before .before .before .before .before .before .before .before .before .before .before .before .args .progress) (c .before .before .before .before .before .before .before .before .before .before .before .before .before .before .before .before .before .before .before .before .before .before .before .before .before .before .before .before .before .before .before .args .blocks) (c .before .before .before .before .before .before .before .before .before .before .before .before .before .before .before .before .before .before .before .before .before .before .before .before .before .before .before .before .before .before .before .args .macroblock) (now (c .before .before .before .before .before .before .before .before .before .before .before .before .before .before .before .before .before .before .before .before .before .before .before .before .before .before .before .before .before .before .before .args .words))) tt)
 
 pub placed-fault-spec : {M : Type 1} → statement M
 placed-fault-spec =
@@ -91,4 +99,6 @@ placed-fault-spec =
     unless-requires-8
     unless-requires-9
     unless-requires-10
+    unless-requires-11
+    unless-requires-12
     returns)

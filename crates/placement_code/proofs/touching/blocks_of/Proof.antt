@@ -19,9 +19,25 @@ backward-of-requires c κs = search needs
 predicted-requires-2 : tie.Need-predicted-requires-2
 predicted-requires-2 c κs = search needs
 
+bottom-of-requires : tie.Need-bottom-of-requires
+bottom-of-requires c κs = search needs
+
+predicted-requires-3 : tie.Need-predicted-requires-3
+predicted-requires-3 c κs = search needs
+
 returns : tie.Need-returns
 unfolding blocksOf
-returns c = simp (c .before .before .before .before .own-extent .ensures, c .before .before .predicted .ensures, c .predicted2 .ensures, c .before .before .before .forward-of .ensures, c .before .backward-of .ensures)
+returns c =
+    let d = c .before .before in
+    simp (
+      d .before .before .before .before .own-extent .ensures,
+      d .before .before .predicted .ensures,
+      d .predicted2 .ensures,
+      d .before .before .before .forward-of .ensures,
+      d .before .backward-of .ensures,
+      c .before .bottom-of .ensures,
+      c .predicted3 .ensures,
+    )
 
 pub blocks-of-spec : {M : Type 1} → statement M
 blocks-of-spec =
@@ -32,4 +48,6 @@ blocks-of-spec =
     predicted-requires
     backward-of-requires
     predicted-requires-2
+    bottom-of-requires
+    predicted-requires-3
     returns)
