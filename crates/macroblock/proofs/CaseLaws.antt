@@ -1,7 +1,7 @@
 -- Kinds and cases: four words for every case, and a case as numbers and back.
 use mathlib.Core.Path.{_≡_, refl, sym, ap, ap₂, _∙_}
 use mathlib.Core.Bool.{Bool, true, false, cond, _&&_}
-use mathlib.Core.List.{List, [], _∷_}
+use mathlib.Core.List.{List}
 use Prim.Native.Nat.{ℕ, _%_, _^_, _<_, _≤_}
 use native.Mathlib.Nat.{mod-eq-of-lt}
 use native.Mathlib.Omega.{arith}
@@ -128,6 +128,14 @@ top-again m = each-kind (λ (c : Case). motionOf c .«top_from_bottom») (m .kin
 pub bottom-again : (m : Motion) → motionOf (caseOf m) .«bottom_from_bottom» ≡ (eqb (m .kind) 4 && m .«bottom_from_bottom»)
 unfolding caseOf motionOf
 bottom-again m = each-kind (λ (c : Case). motionOf c .«bottom_from_bottom») (m .kind) _ _ _ _ _ ∙ field-choice (m .kind) (m .«bottom_from_bottom»)
+
+pub field-case : (m : Motion) → isField (caseOf m) ≡ eqb (m .kind) 4
+unfolding caseOf
+field-case m = each-kind isField (m .kind) _ _ _ _ _ ∙ field-choice (m .kind) true ∙ and-true (eqb (m .kind) 4)
+  where
+    and-true : (x : Bool) → (x && true) ≡ x
+    and-true true = refl
+    and-true false = refl
 
 -- The kind of a case is one of the five, and 4 exactly where it is field predicted.
 pub kind-most : (c : Case) → motionOf c .kind ≤ 4

@@ -1,5 +1,6 @@
 -- for the crates above
-pub mod Allowing
+pub mod AllowedLaws
+pub mod Before
 pub mod CaseLaws
 pub mod CommandLaws
 pub mod Congruence

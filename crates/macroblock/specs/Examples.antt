@@ -267,8 +267,8 @@ fieldRefused =
 unfoldable pub choicesAllowed : List (Example (List ℕ))
 choicesAllowed =
     keepingEach fieldCommand 4 (0x4A010009 ∷ 0x4A040009 ∷ 0x4A050009 ∷ [])
-    ++ breakingEach 4 4 fieldCommand 4 (turnedIn 0x4A000009 29 28 ++ turnedIn 0x4A000009 23 19 ++ turnedIn 0x4A000009 17 17 ++ turnedIn 0x4A000009 15 5)
-    ++ breakingEach 4 4 fieldCommand 4 (0x4A070009 ∷ 0x4A0D0009 ∷ [])
+    ++ breakingEach 4 4 fieldCommand 4 (turnedIn 0x4A000009 29 28 ++ turnedIn 0x4A000009 23 19 ++ turnedIn 0x4A000009 15 5)
+    ++ breakingEach 4 4 fieldCommand 4 (0x4A020009 ∷ 0x4A070009 ∷ 0x4A0D0009 ∷ [])
     ++ breakingEach 4 4 forwardCommand 4 (0x4A010009 ∷ 0x4A040009 ∷ 0x4A050009 ∷ [])
     ++ breakingEach 4 4 bothCommand 4 (0x4A010009 ∷ 0x4A040009 ∷ 0x4A050009 ∷ [])
 
@@ -289,8 +289,9 @@ fieldVectorExamples =
 
 unfoldable pub commandExamples : List (Example (Allowed × List ℕ))
 commandExamples =
-    under alone (map (λ x. keeping (x .words)) macroblockReadings ++ word1Examples ++ skipExamples ++ word3Examples ++ word4Examples ++ vectorExamples)
+    under alone (map (λ x. keeping (x .words)) macroblockReadings ++ word1Examples ++ skipExamples)
+    ++ under alone (word3Examples ++ word4Examples ++ vectorExamples)
     ++ dctExamples
     ++ under alone (fieldAllowed ++ choicesAllowed ++ fieldVectorExamples)
     ++ under neither (fieldRefused ++ choicesRefused)
-    ++ under dctAlone (choicesRefused ++ breaking 5 1 (set fieldCommand 1 0x8400) ∷ [])
+    ++ under dctAlone (fieldRefused ++ choicesRefused ++ breaking 5 1 (set fieldCommand 1 0x8400) ∷ [])

@@ -1,3 +1,4 @@
+pub mod Before
 pub mod Cases
 pub mod Examples
 pub mod Legal

@@ -33,7 +33,8 @@ typeOf kind = cond (eqb kind 0) intraType kind
 -- vector, word 7 the bottom's"; "word 4 bits 16 and 18 choose the reference field for the two".
 abbrev pub motionIn : List ℕ → Motion
 motionIn ws =
-    motion (kindIn (wordAt ws 1)) (wordAt ws 5) (wordAt ws 6) (wordAt ws 7) (isSet (bits (wordAt ws 4) 16 16)) (isSet (bits (wordAt ws 4) 18 18))
+    motion (kindIn (wordAt ws 1)) (wordAt ws 5) (wordAt ws 6) (wordAt ws 7)
+    (isSet (bits (wordAt ws 4) 16 16)) (isSet (bits (wordAt ws 4) 18 18))
 
 -- Word 4: "31 last in slice, 30 first in slice, 27 clamp, 26 last in group, 25 no skip conversion .. 24 first in group".
 abbrev pub flagsIn : ℕ → Flags

@@ -1,4 +1,4 @@
--- The rules that a MACROBLOCK command keeps by itself, without its picture.
+-- The rules that a MACROBLOCK command keeps by itself, without its picture but for what that allows.
 -- To be believed: the rules, their numbers and their words.
 use Prim.Native.Nat.{ℕ}
 use mathlib.Core.Bool.{Bool, true, false, cond, not, _&&_, _||_}

@@ -14,7 +14,7 @@ use Rattle.headers.specs.Words.{wordAt}
 use Rattle.macroblock.specs.Macroblocks.{macroblockOf}
 use Rattle.macroblock.specs.Rules.{alone, commandRules}
 use Rattle.macroblock.specs.declared.Macroblock.{Macroblock}
-use Rattle.macroblock.proofs.Allowing.{allowed-alone}
+use Rattle.macroblock.proofs.AllowedLaws.{kept-alone}
 use Rattle.macroblock.proofs.CommandLaws.{command-within}
 use Rattle.progress.specs.declared.Progress.{Progress}
 use Rattle.placement.specs.Blocks.{blocksOf}
@@ -51,7 +51,7 @@ pub alone-kept : (p : Progress) (ws : List ℕ) → judged (macroblockRules p ws
 unfolding macroblockRules
 alone-kept p ws e =
     let a = allowedIn (p .picture) in
-    allowed-alone a ws (both-accept (placedRules p (blocksOf p (macroblockOf ws .case)) (macroblockOf ws) ws) (commandRules a ws) e .1)
+    kept-alone a ws (both-accept (placedRules p (blocksOf p (macroblockOf ws .case)) (macroblockOf ws) ws) (commandRules a ws) e .1)
 
 -- The rules refuse with numbers 1 to 12, at words 0 to 8.
 pub macroblock-within : (p : Progress) (ws : List ℕ) → T (within 12 8 (macroblockRules p ws))

@@ -8,7 +8,7 @@ use Rattle.answers.specs.Answers.{judged}
 use Rattle.answers.specs.declared.Answer.the-variants.{Refused}
 use Rattle.headers.specs.Headers.{macroblockHeader}
 use Rattle.headers.specs.Words.{wordAt}
-use Rattle.macroblock.specs.Rules.{commandRules}
+use Rattle.macroblock.specs.Rules.{commandRules, alone}
 use Rattle.records.specs.Alone.{readFault, recordFault}
 use Rattle.records.specs.RecordRules.{recordRules}
 
@@ -26,7 +26,7 @@ module _ (ws : List ℕ) where
   unfolding readFault
   too-few d e h = simp (ne-eqb (length ws) 0 d, eq-eqb (wordAt ws 0) macroblockHeader e, lt-ltb (length ws) 9 h)
 
-  pub whole : (length ws ≡ 0 → ⊥) → wordAt ws 0 ≡ macroblockHeader → 9 ≤ length ws → readFault ws ≡ judged (commandRules ws)
+  pub whole : (length ws ≡ 0 → ⊥) → wordAt ws 0 ≡ macroblockHeader → 9 ≤ length ws → readFault ws ≡ judged (commandRules alone ws)
   unfolding readFault
   whole d e h = simp (ne-eqb (length ws) 0 d, eq-eqb (wordAt ws 0) macroblockHeader e, le-ltb (length ws) 9 h)
 

@@ -15,7 +15,7 @@ use Rattle.answers.specs.declared.Answer.the-variants.{Accepted, Refused}
 use Rattle.answers.proofs.NumberLaws.{is-listed, table-listed, room-listed, by-0}
 use Rattle.headers.specs.Headers.{macroblockHeader}
 use Rattle.headers.specs.Words.{wordAt}
-use Rattle.macroblock.specs.Rules.{keptBy, fieldRules, vectorRules, commandRules}
+use Rattle.macroblock.specs.Rules.{keptBy, fieldRules, vectorRules, commandRules, alone}
 use Rattle.records.specs.Alone.{readFault, readAnswer, recordFault, writeAnswer}
 use Rattle.records.specs.Layout.{recordLength, kindPart, fillerPart, forwardPart, backwardPart}
 use Rattle.records.specs.Numbers.{readPlaces, recordPlaces, writePlaces}
@@ -28,11 +28,11 @@ unfolding readFault commandRules fieldRules vectorRules
 read-fault words = by (eqb (length words) 0) refl (eqb (wordAt words 0) macroblockHeader) (ltb (length words) 9)
   where
     by : (none : Bool) → eqb (length words) 0 ≡ none → (macroblock few : Bool)
-        → OneOf (readPlaces words) (cond none (Refused 1 0) (cond (not macroblock) (Refused 2 0) (cond few (Refused 1 (length words)) (judged (commandRules words)))))
+        → OneOf (readPlaces words) (cond none (Refused 1 0) (cond (not macroblock) (Refused 2 0) (cond few (Refused 1 (length words)) (judged (commandRules alone words)))))
     by true e macroblock few = (omega arith, inr (inl (refl, sym (eqb-true (length words) 0 e))))
     by false e false few = (omega arith, is-listed 2 0 (readPlaces words) tt)
     by false e true true = (omega arith, inr (inl (refl, refl)))
-    by false e true false = table-listed (readPlaces words) (commandRules words) tt tt
+    by false e true false = table-listed (readPlaces words) (commandRules alone words) tt tt
 
 pub read-numbers : (words room : List ℕ) → OneOf (readPlaces words) (readAnswer words room)
 unfolding readAnswer

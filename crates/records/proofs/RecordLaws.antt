@@ -1,6 +1,6 @@
 -- A record and its macroblock: each gives the other back, and legal ones give legal ones.
 use mathlib.Core.Path.{_≡_, refl, sym, ap, ap₂, subst, _∙_}
-use mathlib.Core.Bool.{Bool, true, false, cond, _&&_}
+use mathlib.Core.Bool.{Bool, true, false, cond, not, _&&_}
 use mathlib.Core.List.{List, [], _∷_, _++_}
 use Prim.Native.Nat.{ℕ, zero, suc, _+_, _^_, _<_, _≤_}
 use native.Mathlib.Omega.{arith}
@@ -8,7 +8,7 @@ use borrow.Author.Tests.{eqb-true, eqb-false, eq-eqb, leb-true, le-leb}
 use lib.Dec.{T, eqb, leb}
 use lib.ListN.{length, getD}
 use Rattle.fields.proofs.Fields.{flag-back}
-use Rattle.lists.proofs.Booleans.{and-left, and-right, both-true}
+use Rattle.lists.proofs.Booleans.{and-left, and-right, both-true, not-and}
 use Rattle.fields.specs.Word.{isSet, flag, packed}
 use Rattle.fields.specs.Bytes.{bytesOf, numberIn, elements, Bytes}
 use Rattle.fields.specs.Parts.{Part, valueAt}
@@ -22,22 +22,23 @@ use Rattle.answers.specs.Answers.{judged, holdsAt}
 use Rattle.answers.specs.declared.Answer.the-variants.{Accepted}
 use Rattle.answers.proofs.Judging.{all-hold, none-broken, hold-both, hold-each, both-accept, rule-kept}
 use Rattle.macroblock.specs.Cases.{motion, motionOf, caseOf}
-use Rattle.macroblock.specs.Legal.{Legal}
+use Rattle.macroblock.specs.Legal.{CaseFits, Legal}
 use Rattle.macroblock.specs.Rules.{keptBy}
 use Rattle.macroblock.specs.declared.Case.{Case}
 use Rattle.macroblock.specs.declared.Case.the-variants.{Intra, Inter}
-use Rattle.macroblock.specs.declared.Prediction.the-variants.{Forward, Backward, Both}
+use Rattle.macroblock.specs.declared.Prediction.the-variants.{Forward, Backward, Both, Field}
 use Rattle.macroblock.specs.declared.Flags.{Flags}
 use Rattle.macroblock.specs.declared.Kept.{Kept}
 use Rattle.macroblock.specs.declared.Macroblock.{Macroblock}
 use Rattle.macroblock.specs.declared.Motion.{Motion}
-use Rattle.macroblock.proofs.CaseLaws.{kind-most, case-fits, case-back, motion-lt}
+use Rattle.macroblock.proofs.CaseLaws.{case-fits, case-back, motion-lt}
 use Rattle.macroblock.proofs.CommandLaws.{flag-again, bit-again, quantiser-lt}
 use Rattle.macroblock.proofs.Congruence.{same-flags, same-macroblock}
 use Rattle.records.specs.Layout.{columnPart, rowPart, upperPart, kindPart, skipPart, patternPart, maxSizePart, targetSizePart, quantiserPart, flagsPart, fillerPart, forwardPart, backwardPart}
-use Rattle.records.specs.Records.{flagFields, flagsOf, recordedMotion, recordOf, macroblockIn}
+use Rattle.records.specs.Records.{flagFields, flagsOf, recordableCase, recordable, recordedKind, recordedMotion, recordOf, macroblockIn}
 use Rattle.records.specs.RecordRules.{hasForward, hasBackward, zeroBytes, unusedPart, byteRules, zeroRules, recordRules}
 use Rattle.records.proofs.FlagsByte.{flags-lt, flags-fit}
+use Rattle.records.proofs.Recordable.{recordable-most, recordable-legal, no-fields, read-never-field, read-kept-case}
 use Rattle.records.proofs.Spelling.{bytesBy, flag-most, flag-fits, spelled}
 use Rattle.answers.specs.Tables.{Hold}
 use Rattle.fields.specs.Pieces.{piece}
@@ -56,25 +57,37 @@ flag-bit : (b : Bool) → isSet (flag b) ≡ b
 flag-bit true = refl
 flag-bit false = refl
 
-same-motion : {k f b k′ f′ b′ : ℕ} → k ≡ k′ → f ≡ f′ → b ≡ b′ → motion k f b ≡ motion k′ f′ b′
+same-motion : {k f b k′ f′ b′ : ℕ} → k ≡ k′ → f ≡ f′ → b ≡ b′ → motion k f b 0 false false ≡ motion k′ f′ b′ 0 false false
 same-motion ek ef eb = cc
+
+kind-recorded : (n : ℕ) → n ≤ 3 → recordedKind n ≡ n
+kind-recorded n h = ap (λ (x : Bool). cond x n 0) (le-leb n 3 h)
 
 -- From a macroblock to its record and back.
 module _ (m : Macroblock) (l : Legal m) where
-  kind-at : valueAt kindPart (recordOf m) ≡ motionOf (m .case) .kind
-  unfolding recordOf
-  kind-at = let k = kind-most (m .case) in number-back 1 (motionOf (m .case) .kind) (omega arith)
+  abbrev case : Case
+  case = recordableCase (m .case)
 
-  motion-at : recordedMotion (recordOf m) ≡ motionOf (m .case)
+  abbrev numbers : Motion
+  numbers = motionOf case
+
+  fits : CaseFits case
+  fits = recordable-legal m l .case-fits
+
+  kind-at : valueAt kindPart (recordOf m) ≡ numbers .kind
+  unfolding recordOf
+  kind-at = let k = recordable-most (m .case) in number-back 1 (numbers .kind) (omega arith)
+
+  motion-at : recordedMotion (recordOf m) ≡ numbers
   unfolding recordOf
   motion-at =
-      let k = kind-at in
-      let f = number-back 4 (motionOf (m .case) .forward) (motion-lt (m .case) (l .case-fits) .0) in
-      let b = number-back 4 (motionOf (m .case) .backward) (motion-lt (m .case) (l .case-fits) .1) in
-      same-motion k f b
+      let k = ap recordedKind kind-at ∙ kind-recorded (numbers .kind) (recordable-most (m .case)) in
+      let f = number-back 4 (numbers .forward) (motion-lt case fits .0) in
+      let b = number-back 4 (numbers .backward) (motion-lt case fits .1) in
+      same-motion k f b ∙ sym (no-fields (m .case))
 
-  -- A legal macroblock comes back from its record.
-  pub record-back : macroblockIn (recordOf m) ≡ m
+  -- What a record has room for of a legal macroblock comes back from it.
+  pub record-back : macroblockIn (recordOf m) ≡ recordable m
   unfolding recordOf macroblockIn
   record-back =
       let p = l .pattern-fits in
@@ -83,8 +96,9 @@ module _ (m : Macroblock) (l : Legal m) where
       (number-back 2 (m .column) (l .column-fits))
       (number-back 2 (m .row) (l .row-fits))
       (number-back 2 (m .upper) (l .upper-fits))
-      (ap caseOf motion-at ∙ case-back (m .case) (l .case-fits))
+      (ap caseOf motion-at ∙ case-back case fits)
       (ap isSet (number-back 1 (flag (m .skip)) (flag-fits (m .skip))) ∙ flag-bit (m .skip))
+      refl
       (number-back 1 (m .pattern) (omega arith))
       (number-back 1 (m .«max_size») (l .max-fits))
       (number-back 1 (m .«target_size») (l .target-fits))
@@ -117,12 +131,15 @@ hold-unused true p bs h e = absurd (subst T e tt)
 hold-unused false p bs h e = hold-zeros bs (p .first) (p .count) h
 
 -- a vector that a case has not is 0
-absent-zero : (c : Case) → (hasForward (motionOf c .kind) ≡ false → motionOf c .forward ≡ 0) × (hasBackward (motionOf c .kind) ≡ false → motionOf c .backward ≡ 0)
+absent-zero : (c : Case)
+    → (hasForward (motionOf (recordableCase c) .kind) ≡ false → motionOf (recordableCase c) .forward ≡ 0)
+    × (hasBackward (motionOf (recordableCase c) .kind) ≡ false → motionOf (recordableCase c) .backward ≡ 0)
 unfolding motionOf
 absent-zero Intra = (λ e. refl, λ e. refl)
 absent-zero (Inter (Forward f)) = (λ e. absurd (subst T e tt), λ e. refl)
 absent-zero (Inter (Backward b)) = (λ e. refl, λ e. absurd (subst T e tt))
 absent-zero (Inter (Both f b)) = (λ e. absurd (subst T e tt), λ e. absurd (subst T e tt))
+absent-zero (Inter (Field t b i j)) = (λ e. absurd (subst T e tt), λ e. refl)
 
 at-most : {v n k : ℕ} → v ≡ n → n ≤ k → leb v k ≡ true
 at-most {v} {n} {k} e h = le-leb v k (subst (λ (x : ℕ). x ≤ k) (sym e) h)
@@ -136,28 +153,29 @@ module _ (m : Macroblock) (l : Legal m) where
   zeros-kept =
       let bs = recordOf m in
       let k = valueAt kindPart bs in
-      let absent : (b : ℕ → Bool) → b k ≡ false → b (motionOf (m .case) .kind) ≡ false = λ b e. ap b (sym (kind-at m l)) ∙ e in
+      let absent : (b : ℕ → Bool) → b k ≡ false → b (motionOf (recordableCase (m .case)) .kind) ≡ false = λ b e. ap b (sym (kind-at m l)) ∙ e in
       hold-both (unusedPart false fillerPart bs) (unusedPart (hasForward k) forwardPart bs ++ unusedPart (hasBackward k) backwardPart bs)
       (unused-hold false fillerPart bs (λ e. refl))
       (hold-both (unusedPart (hasForward k) forwardPart bs) (unusedPart (hasBackward k) backwardPart bs)
       (unused-hold (hasForward k) forwardPart bs (λ e. ap (bytesOf 4) (absent-zero (m .case) .0 (absent hasForward e))))
       (unused-hold (hasBackward k) backwardPart bs (λ e. ap (bytesOf 4) (absent-zero (m .case) .1 (absent hasBackward e)))))
 
-  fields-kept : Hold (byteRules (recordOf m) (keptBy m))
+  fields-kept : Hold (byteRules (recordOf m) (keptBy (recordable m)))
   unfolding byteRules recordOf
   fields-kept =
-      let k = kind-most (m .case) in
+      let r = recordable-legal m l in
+      let k = recordable-most (m .case) in
       let p = l .pattern-fits in
       let f = flags-lt (m .flags) in
       let s = flag-most (m .skip) in
-      let kind = at-most (number-back 1 (motionOf (m .case) .kind) (omega arith)) k in
+      let kind = at-most (number-back 1 (motionOf (recordableCase (m .case)) .kind) (omega arith)) k in
       let skip = at-most (number-back 1 (flag (m .skip)) (flag-fits (m .skip))) s in
       let pattern = at-most (number-back 1 (m .pattern) (omega arith)) (lt-most p) in
       let flags = at-most (number-back 1 (packed (flagFields (m .flags))) (flags-fit (m .flags))) (lt-most f) in (
         kind,
         (
-          both-true skip (l .intra-not-skipped),
-          (both-true pattern (both-true (l .intra-pattern) (l .skip-pattern)), (l .quantiser-permitted, (both-true flags (l .skip-inside-slice), tt))),
+          both-true skip (r .intra-not-skipped),
+          (both-true pattern (both-true (r .intra-pattern) (r .skip-pattern)), (r .quantiser-permitted, (both-true flags (r .skip-inside-slice), tt))),
         ),
       )
 
@@ -176,28 +194,30 @@ one : (b : ℕ) → numberIn (b ∷ []) ≡ b
 one b = omega arith
 
 -- numbers that a record may hold are those of a case
-motion-again : (mo : Motion)
-    → mo .kind ≤ 3
-    → mo .forward < 2 ^ 32
-    → mo .backward < 2 ^ 32
-    → (hasForward (mo .kind) ≡ false → mo .forward ≡ 0)
-    → (hasBackward (mo .kind) ≡ false → mo .backward ≡ 0)
-    → motionOf (caseOf mo) ≡ mo
+motion-again : (k f b : ℕ)
+    → k ≤ 3
+    → f < 2 ^ 32
+    → b < 2 ^ 32
+    → (hasForward k ≡ false → f ≡ 0)
+    → (hasBackward k ≡ false → b ≡ 0)
+    → motionOf (caseOf (motion k f b 0 false false)) ≡ motion k f b 0 false false
 unfolding caseOf motionOf
-motion-again mo hk hf hb nf nb = by (eqb (mo .kind) 1) (eqb (mo .kind) 2) (eqb (mo .kind) 3) refl refl refl
+motion-again k f b hk hf hb nf nb = by (eqb k 1) (eqb k 2) (eqb k 3) (eqb k 4) refl refl refl refl
   where
-    by : (x y z : Bool)
-        → eqb (mo .kind) 1 ≡ x
-        → eqb (mo .kind) 2 ≡ y
-        → eqb (mo .kind) 3 ≡ z
-        → motionOf (cond x (Inter (Forward (vectorOf (mo .forward)))) (cond y (Inter (Backward (vectorOf (mo .backward)))) (cond z (Inter (Both (vectorOf (mo .forward)) (vectorOf (mo .backward)))) Intra)))
-        ≡ motion (mo .kind) (mo .forward) (mo .backward)
-    by true y z ex ey ez = let k = eqb-true (mo .kind) 1 ex in same-motion (sym k) (vector-word-back (mo .forward) hf) (sym (nb (subst (λ (n : ℕ). hasBackward n ≡ false) (sym k) refl)))
-    by false true z ex ey ez = let k = eqb-true (mo .kind) 2 ey in same-motion (sym k) (sym (nf (subst (λ (n : ℕ). hasForward n ≡ false) (sym k) refl))) (vector-word-back (mo .backward) hb)
-    by false false true ex ey ez = let k = eqb-true (mo .kind) 3 ez in same-motion (sym k) (vector-word-back (mo .forward) hf) (vector-word-back (mo .backward) hb)
-    by false false false ex ey ez =
-        let k : mo .kind ≡ 0 = omega (arith, eqb-false (mo .kind) 1 ex, eqb-false (mo .kind) 2 ey, eqb-false (mo .kind) 3 ez) in
-        same-motion (sym k) (sym (nf (subst (λ (n : ℕ). hasForward n ≡ false) (sym k) refl))) (sym (nb (subst (λ (n : ℕ). hasBackward n ≡ false) (sym k) refl)))
+    by : (x y z u : Bool)
+        → eqb k 1 ≡ x
+        → eqb k 2 ≡ y
+        → eqb k 3 ≡ z
+        → eqb k 4 ≡ u
+        → motionOf (cond x (Inter (Forward (vectorOf f))) (cond y (Inter (Backward (vectorOf b))) (cond z (Inter (Both (vectorOf f) (vectorOf b))) (cond u (Inter (Field (vectorOf f) (vectorOf 0) false false)) Intra))))
+        ≡ motion k f b 0 false false
+    by true y z u ex ey ez eu = let e = eqb-true k 1 ex in same-motion (sym e) (vector-word-back f hf) (sym (nb (subst (λ (n : ℕ). hasBackward n ≡ false) (sym e) refl)))
+    by false true z u ex ey ez eu = let e = eqb-true k 2 ey in same-motion (sym e) (sym (nf (subst (λ (n : ℕ). hasForward n ≡ false) (sym e) refl))) (vector-word-back b hb)
+    by false false true u ex ey ez eu = let e = eqb-true k 3 ez in same-motion (sym e) (vector-word-back f hf) (vector-word-back b hb)
+    by false false false true ex ey ez eu = absurd (omega (arith, eqb-true k 4 eu))
+    by false false false false ex ey ez eu =
+        let e : k ≡ 0 = omega (arith, eqb-false k 1 ex, eqb-false k 2 ey, eqb-false k 3 ez) in
+        same-motion (sym e) (sym (nf (subst (λ (n : ℕ). hasForward n ≡ false) (sym e) refl))) (sym (nb (subst (λ (n : ℕ). hasBackward n ≡ false) (sym e) refl)))
 
 -- a byte of six flags, and back
 flags-again : (b : ℕ) → b < 64 → packed (flagFields (flagsOf b)) ≡ b
@@ -263,6 +283,10 @@ module _ (bs : List ℕ) (n : length bs ≡ 24) (h : Bytes bs) (k : judged (reco
   part-lt : (p : Part) → valueAt p bs < 256 ^ length (elements bs (p .first) (p .count))
   part-lt p = number-lt (elements bs (p .first) (p .count)) (part-bytes bs h (p .first) (p .count))
 
+  not-field : keptBy (macroblockIn bs) .«field_not_skipped» ≡ true
+  unfolding macroblockIn keptBy
+  not-field = let skip = isSet (valueAt skipPart bs) in ap (λ (f : Bool). not (skip && f)) (read-never-field bs) ∙ not-and skip
+
   -- A legal record's macroblock is legal.
   pub record-legal : Legal (macroblockIn bs)
   unfolding macroblockIn
@@ -281,6 +305,8 @@ module _ (bs : List ℕ) (n : length bs ≡ 24) (h : Bytes bs) (k : judged (reco
         quantiser-permitted = quantiser-right;
         skip-inside-slice = flags-right .1;
         skip-pattern = pattern-right .2;
+        field-not-skipped = not-field;
+        dct-not-skipped = refl;
       }
 
   zeros : (elements bs 13 3 ≡ 0 ∷ 0 ∷ 0 ∷ []) × (hasForward (valueAt kindPart bs) ≡ false → elements bs 16 4 ≡ bytesOf 4 0) × (hasBackward (valueAt kindPart bs) ≡ false → elements bs 20 4 ≡ bytesOf 4 0)
@@ -291,9 +317,11 @@ module _ (bs : List ℕ) (n : length bs ≡ 24) (h : Bytes bs) (k : judged (reco
       let b = hold-each (unusedPart (hasForward kind) forwardPart bs) (unusedPart (hasBackward kind) backwardPart bs) (a .1) in
       (hold-unused false fillerPart bs (a .0) refl, hold-unused (hasForward kind) forwardPart bs (b .0), hold-unused (hasBackward kind) backwardPart bs (b .1))
 
-  motion-right : motionOf (caseOf (recordedMotion bs)) ≡ recordedMotion bs
+  motion-right : motionOf (recordableCase (caseOf (recordedMotion bs))) ≡ motion (valueAt kindPart bs) (valueAt forwardPart bs) (valueAt backwardPart bs) 0 false false
   motion-right =
-      motion-again (recordedMotion bs) kind-right (part-lt forwardPart) (part-lt backwardPart)
+      ap motionOf (read-kept-case bs)
+      ∙ ap (λ (k : ℕ). motionOf (caseOf (motion k (valueAt forwardPart bs) (valueAt backwardPart bs) 0 false false))) (kind-recorded (valueAt kindPart bs) kind-right)
+      ∙ motion-again (valueAt kindPart bs) (valueAt forwardPart bs) (valueAt backwardPart bs) kind-right (part-lt forwardPart) (part-lt backwardPart)
       (λ e. ap numberIn (zeros .1 e))
       (λ e. ap numberIn (zeros .2 e))
 

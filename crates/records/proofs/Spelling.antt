@@ -10,9 +10,9 @@ use Rattle.fields.specs.Word.{flag, packed}
 use Rattle.fields.specs.Bytes.{bytesOf}
 use Rattle.macroblock.specs.Cases.{motionOf}
 use Rattle.macroblock.specs.declared.Macroblock.{Macroblock}
-use Rattle.macroblock.proofs.CaseLaws.{kind-most}
-use Rattle.records.specs.Records.{flagFields, recordOf}
+use Rattle.records.specs.Records.{flagFields, recordableCase, recordOf}
 use Rattle.records.proofs.FlagsByte.{flags-fit}
+use Rattle.records.proofs.Recordable.{recordable-most}
 
 -- the bytes, from those of the longer parts and the single ones
 abbrev pub bytesBy : List ℕ → List ℕ → List ℕ → ℕ → ℕ → ℕ → ℕ → ℕ → ℕ → ℕ → List ℕ → List ℕ → List ℕ
@@ -48,13 +48,13 @@ pub spelled : (m : Macroblock) {col row up fw bw : List ℕ} {kind skip flags : 
     → col ≡ bytesOf 2 (m .column)
     → row ≡ bytesOf 2 (m .row)
     → up ≡ bytesOf 2 (m .upper)
-    → kind ≡ motionOf (m .case) .kind
+    → kind ≡ motionOf (recordableCase (m .case)) .kind
     → skip ≡ flag (m .skip)
     → flags ≡ packed (flagFields (m .flags))
-    → fw ≡ bytesOf 4 (motionOf (m .case) .forward)
-    → bw ≡ bytesOf 4 (motionOf (m .case) .backward)
+    → fw ≡ bytesOf 4 (motionOf (recordableCase (m .case)) .forward)
+    → bw ≡ bytesOf 4 (motionOf (recordableCase (m .case)) .backward)
     → bytesBy col row up kind skip (m .pattern) (m .«max_size») (m .«target_size») (m .quantiser) flags fw bw ≡ recordOf m
 unfolding recordOf
 spelled m hp hx ht hq ec er eu ek es eg ef eb =
-    let k = kind-most (m .case) in
+    let k = recordable-most (m .case) in
     same ec er eu (ek ∙ byte (omega arith)) (es ∙ flag-byte (m .skip)) (byte hp) (byte hx) (byte ht) (byte hq) (eg ∙ byte (flags-fit (m .flags))) ef eb

@@ -12,7 +12,7 @@ use Rattle.headers.specs.Headers.{macroblockHeader}
 use Rattle.macroblock.specs.Legal.{Words}
 use Rattle.headers.specs.Words.{wordAt}
 use Rattle.macroblock.specs.Macroblocks.{macroblockOf, wordsOf}
-use Rattle.macroblock.specs.Rules.{commandRules}
+use Rattle.macroblock.specs.Rules.{commandRules, alone}
 use Rattle.answers.specs.declared.Answer.{Answer}
 use Rattle.answers.specs.declared.Answer.the-variants.{Accepted, Refused}
 use Rattle.records.specs.Layout.{recordLength}
@@ -20,12 +20,12 @@ use Rattle.records.specs.Records.{recordOf, macroblockIn}
 use Rattle.records.specs.RecordRules.{recordRules}
 
 -- "an empty run gets 1 at 0, any header but MACROBLOCK's gets 2", fewer than nine words 1 at the words given; then the rules of
--- a command alone; "14 follows all these".
+-- a command alone, which "may be of either sort" (document 02's R-6); "14 follows all these".
 unfoldable pub readFault : List ℕ → Answer
 readFault words =
     cond (eqb (length words) 0) (Refused 1 0)
     (cond (not (eqb (wordAt words 0) macroblockHeader)) (Refused 2 0)
-    (cond (ltb (length words) 9) (Refused 1 (length words)) (judged (commandRules words))))
+    (cond (ltb (length words) 9) (Refused 1 (length words)) (judged (commandRules alone words))))
 
 unfoldable pub readAnswer : List ℕ → List ℕ → Answer
 readAnswer words room = thenRoom (readFault words) recordLength room

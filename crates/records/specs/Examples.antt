@@ -1,5 +1,6 @@
--- Worked examples of log records, of their bad bytes, and of commands and records alone. What is quoted is document 01.
--- To be believed: bytes, numbers and places are document 01's own.
+-- Worked examples of log records, of their bad bytes, and of commands and records alone. What is quoted is document 01, of bit 15 and type
+-- 04h document 02's R-6.
+-- To be believed: bytes, numbers and places are the papers' own.
 use Prim.Native.Nat.{ℕ}
 use mathlib.Core.List.{List, [], _∷_, _++_, map}
 use lib.ListN.{set, take, replicate}
@@ -7,7 +8,7 @@ use Rattle.answers.specs.Examples.{Example, keeping, breaking, keepingEach, bre
 use Rattle.answers.specs.declared.Answer.{Answer}
 use Rattle.answers.specs.declared.Answer.the-variants.{Accepted, Refused}
 use Rattle.headers.specs.Examples.{WordReading, reading, upwards}
-use Rattle.macroblock.specs.Examples.{intraCommand, skippedCommand, forwardWords, backwardWords, bothWords, forwardCommand, backwardCommand, bothCommand}
+use Rattle.macroblock.specs.Examples.{intraCommand, skippedCommand, forwardWords, backwardWords, bothWords, forwardCommand, backwardCommand, bothCommand, fieldWords, fieldCommand}
 
 -- P1's: "8 zero bytes, 3F 00 00 01 0F, 11 zero bytes".
 abbrev pub p1Record : List ℕ
@@ -53,6 +54,31 @@ recordReadings =
     ∷ reading (set intraCommand 4 0x02000001) (set p1Record 12 32)
     ∷ []
 
+-- A command, its record, and the command that this gives back.
+pub record Shortened : Type 0 where
+  pub command : List ℕ
+  pub bytes : List ℕ
+  pub back : List ℕ
+
+abbrev pub shortened : List ℕ → List ℕ → List ℕ → Shortened
+shortened command bytes back = record { command = command; bytes = bytes; back = back }
+
+-- "The log has no room for bit 15 and type 04h before R-7": the dct type of each type and of intra is left out, with no bit in byte 13, and
+-- 04h, with each choice, with a dct type and with another vector in word 7, is written as kind 1 with word 5's vector.
+unfoldable pub shortReadings : List Shortened
+shortReadings =
+    shortened (set intraCommand 1 0xBA00) p1Record intraCommand
+    ∷ shortened (set forwardCommand 1 0x12348100) (interRecord 1 forwardBytes) forwardCommand
+    ∷ shortened (set backwardCommand 1 0x12348200) (interRecord 2 backwardBytes) backwardCommand
+    ∷ shortened (set bothCommand 1 0x12348300) (interRecord 3 bothBytes) bothCommand
+    ∷ shortened fieldCommand (interRecord 1 forwardBytes) forwardCommand
+    ∷ shortened (set fieldCommand 4 0x4A010009) (interRecord 1 forwardBytes) forwardCommand
+    ∷ shortened (set fieldCommand 4 0x4A040009) (interRecord 1 forwardBytes) forwardCommand
+    ∷ shortened (set fieldCommand 4 0x4A050009) (interRecord 1 forwardBytes) forwardCommand
+    ∷ shortened (set fieldCommand 1 0x1234C401) (interRecord 1 forwardBytes) forwardCommand
+    ∷ shortened (set fieldCommand 7 0x7FFF8000) (interRecord 1 forwardBytes) forwardCommand
+    ∷ []
+
 -- A record whose i-th byte is each of these, one at a time: that byte is bad. "15 record not legal: its first bad byte".
 abbrev pub badEach : List ℕ → ℕ → List ℕ → List (Example (List ℕ))
 badEach r i bs = breakingEach 15 i r i bs
@@ -82,7 +108,7 @@ byteExamples =
     ++ badFrom (interRecord 3 bothBytes) 13 3
 
 -- The pattern: intra's 63; inter's to 63; a skipped one's 0. "Clashes are placed at byte 7 (skipped intra), 8 (pattern), 12 (skip with a
--- slice end)". A skipped intra has a pattern that is wrong for either.
+-- slice end)". A skipped intra has a pattern that is wrong for either. Kind 4 is none yet: it has intra's pattern and no vector.
 unfoldable pub clashExamples : List (Example (List ℕ))
 clashExamples =
     badEach p1Record 8 (0 ∷ 31 ∷ 47 ∷ 55 ∷ 59 ∷ 61 ∷ 62 ∷ 64 ∷ 127 ∷ 255 ∷ [])
@@ -99,6 +125,7 @@ clashExamples =
     ∷ record { given = set (set (set p1Record 7 1) 8 0) 12 0; breaks = (15, 7) ∷ (15, 8) ∷ [] }
     ∷ record { given = set (set (skippedRecord 1 forwardBytes) 11 0) 12 1; breaks = (15, 11) ∷ (15, 12) ∷ [] }
     ∷ record { given = set (set (interRecord 1 forwardBytes) 15 9) 23 1; breaks = (15, 15) ∷ (15, 23) ∷ [] }
+    ∷ record { given = interRecord 4 forwardBytes; breaks = (15, 6) ∷ (15, 8) ∷ (15, 16) ∷ (15, 17) ∷ (15, 18) ∷ [] }
     ∷ []
 
 -- "zero when absent": all eight bytes of an intra's vectors, the backward four of kind 1, the forward four of kind 2, none of kind 3
@@ -146,7 +173,37 @@ readExamples =
     ∷ lent (set (set intraCommand 1 0x3A05) 3 0) 24 (Refused 4 1)
     ∷ []
 
--- "A length other than 24 gets 15 at byte 0"; the first of several bad bytes; a command has nine words
+-- "One command read alone may be of either sort": bit 15 and type 04h are taken; "bit 14 = 1 and bits 1:0 = 1", else 4; "a skipped type 04h
+-- gives 11, read alone too", with bit 15 first 4, as any skipped one; "17 and 19 stay zero", 16 and 18 on other types; "6 and 8 copy 5"
+unfoldable pub eitherSort : List Lent
+eitherSort =
+    lent (set intraCommand 1 0xBA00) 24 Accepted
+    ∷ lent (set forwardCommand 1 0x12348100) 24 Accepted
+    ∷ lent fieldCommand 24 Accepted
+    ∷ lent (set fieldCommand 1 0x1234C401) 24 Accepted
+    ∷ lent (set fieldCommand 4 0x4A050009) 24 Accepted
+    ∷ lent fieldCommand 23 (Refused 14 24)
+    ∷ lent (set forwardCommand 1 0x12348100) 23 (Refused 14 24)
+    ∷ lent (set fieldCommand 1 0x400) 24 (Refused 4 1)
+    ∷ lent (set fieldCommand 1 0x401) 24 (Refused 4 1)
+    ∷ lent (set fieldCommand 1 0x4400) 24 (Refused 4 1)
+    ∷ lent (set fieldCommand 1 0x4403) 24 (Refused 4 1)
+    ∷ lent (set forwardCommand 1 0x4101) 24 (Refused 4 1)
+    ∷ lent (set intraCommand 1 0x7A00) 24 (Refused 4 1)
+    ∷ lent (skippedCommand 0x8104 forwardWords) 24 (Refused 4 1)
+    ∷ lent (skippedCommand 0x4405 fieldWords) 24 (Refused 11 1)
+    ∷ lent (skippedCommand 0x4405 fieldWords) 0 (Refused 11 1)
+    ∷ lent (skippedCommand 0xC405 fieldWords) 24 (Refused 4 1)
+    ∷ lent (set fieldCommand 4 0x4A020009) 24 (Refused 4 4)
+    ∷ lent (set fieldCommand 4 0x4A080009) 24 (Refused 4 4)
+    ∷ lent (set forwardCommand 4 0x4A010009) 24 (Refused 4 4)
+    ∷ lent (set bothCommand 4 0x4A040009) 24 (Refused 4 4)
+    ∷ lent (set fieldCommand 6 0xFFFF0001) 24 (Refused 8 6)
+    ∷ lent (set fieldCommand 8 0xFFFF0001) 24 (Refused 8 8)
+    ∷ []
+
+-- "A length other than 24 gets 15 at byte 0"; the first of several bad bytes; a command has nine words; kind 4 and a dct type in byte 13 are
+-- R-7's, and no record yet
 unfoldable pub writeExamples : List Lent
 writeExamples =
     lent [] 9 (Refused 15 0)
@@ -158,4 +215,7 @@ writeExamples =
     ∷ lent p1Record 8 (Refused 14 9)
     ∷ lent (set p1Record 23 1) 8 (Refused 15 23)
     ∷ lent (set (set (set p1Record 6 4) 7 9) 11 0) 9 (Refused 15 6)
+    ∷ lent (set p1Record 6 4) 9 (Refused 15 6)
+    ∷ lent (interRecord 4 forwardBytes) 9 (Refused 15 6)
+    ∷ lent (set (interRecord 1 forwardBytes) 13 4) 9 (Refused 15 13)
     ∷ []

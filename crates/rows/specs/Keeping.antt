@@ -1,24 +1,24 @@
 -- What a command that the tests let pass comes to: each of its rules holds, and what it touches is joined.
 -- Proved: against the rules and the progress after them, by `accepted` (proofs/Keeping.antt) and `found-comes` (proofs/Taking.antt).
-use mathlib.Core.Bool.{true, cond, not, _&&_, _||_}
+use mathlib.Core.Bool.{true, not, _&&_, _||_}
 use mathlib.Core.List.{List}
 use mathlib.Core.Path.{_≡_}
 use Prim.Native.Nat.{ℕ, _-_, _<_}
 use Rattle.headers.specs.Words.{wordAt}
 use Rattle.macroblock.specs.Cases.{motionOf}
 use Rattle.macroblock.specs.Macroblocks.{macroblockOf, kindIn}
-use Rattle.macroblock.specs.Rules.{keptBy, typePermitted, fixed1, fixed3, fixed4, copied}
+use Rattle.macroblock.specs.Rules.{keptBy, typePermitted, fieldIn, fixed1, fixed3, fixed4, copied}
 use Rattle.placement.specs.Blocks.{blocksOf}
-use Rattle.placement.specs.Placing.{inSequence, codingPermits, skipPermitted, atPosition, conversionPermitted, flagsAgree}
+use Rattle.placement.specs.Placing.{allowedIn, inSequence, codingPermits, skipPermitted, atPosition, conversionPermitted, flagsAgree}
 use Rattle.progress.specs.declared.Progress.{Progress}
 use lib.ListN.{length}
-use Rattle.prediction.specs.Extents.{emptyExtent, joined}
+use Rattle.prediction.specs.Extents.{joined}
 use Rattle.prediction.specs.declared.Extent.{Extent}
 use Rattle.macroblock.specs.declared.Flags.{Flags}
 use Rattle.placement.specs.Progressing.{stageAfter}
 use Rattle.rows.specs.Rows.{previousIn, ownIn}
-use Rattle.rows.specs.Steps.{placeIn, reachIn, ForwardFits, BackwardFits}
-use Rattle.rows.specs.Touching.{usesVector}
+use Rattle.rows.specs.Steps.{placeIn, reachIn}
+use Rattle.rows.specs.Touching.{reached, AllFit, acrossOf, downOf, forwardPoints, backwardPoints}
 use Rattle.rows.specs.Words.{dueBits}
 
 -- Every rule of a command where it comes, one by one.
@@ -33,12 +33,14 @@ pub record Keeps (q : Progress) (c : List ℕ) : Type 0 where
   pub forward-inside : blocksOf q (macroblockOf c .case) .forward .inside ≡ true
   pub backward-range : blocksOf q (macroblockOf c .case) .backward .«in_range» ≡ true
   pub backward-inside : blocksOf q (macroblockOf c .case) .backward .inside ≡ true
-  pub fixed-1 : fixed1 (wordAt c 1) ≡ true
-  pub typed : (typePermitted (wordAt c 1) && keptBy (macroblockOf c) .«intra_not_skipped») ≡ true
-  pub skipped : (keptBy (macroblockOf c) .«skip_inside_slice» && keptBy (macroblockOf c) .«skip_pattern») ≡ true
+  pub bottom-range : blocksOf q (macroblockOf c .case) .bottom .«in_range» ≡ true
+  pub bottom-inside : blocksOf q (macroblockOf c .case) .bottom .inside ≡ true
+  pub fixed-1 : fixed1 (allowedIn (q .picture)) (wordAt c 1) ≡ true
+  pub typed : (typePermitted (allowedIn (q .picture)) (wordAt c 1) && keptBy (macroblockOf c) .«intra_not_skipped») ≡ true
+  pub skipped : (keptBy (macroblockOf c) .«skip_inside_slice» && (keptBy (macroblockOf c) .«skip_pattern» && keptBy (macroblockOf c) .«field_not_skipped»)) ≡ true
   pub fixed-3 : fixed3 (wordAt c 3) ≡ true
   pub intra-pattern : keptBy (macroblockOf c) .«intra_pattern» ≡ true
-  pub fixed-4 : fixed4 (wordAt c 4) ≡ true
+  pub fixed-4 : fixed4 (fieldIn (allowedIn (q .picture)) (wordAt c 1)) (wordAt c 4) ≡ true
   pub quantiser : keptBy (macroblockOf c) .quantiser ≡ true
   pub five : copied c 5 0 ≡ true
   pub six : copied c 6 1 ≡ true
@@ -49,7 +51,7 @@ pub record Keeps (q : Progress) (c : List ℕ) : Type 0 where
 pub record Joins (q : Progress) (ws : List ℕ) (f b : Extent) : Type 0 where
   pub keeps : Keeps q ws
   pub kind-is : motionOf (macroblockOf ws .case) .kind ≡ kindIn (wordAt ws 1)
-  pub forward-next : joined (q .extents .forward) (blocksOf q (macroblockOf ws .case) .forward .extent) ≡ f
+  pub forward-next : joined (joined (q .extents .forward) (blocksOf q (macroblockOf ws .case) .forward .extent)) (blocksOf q (macroblockOf ws .case) .bottom .extent) ≡ f
   pub backward-next : joined (q .extents .backward) (blocksOf q (macroblockOf ws .case) .backward .extent) ≡ b
 
 -- Where the batch stands before the command at a column: `q` is the progress there, `p` was that before the first of the row that
@@ -69,15 +71,11 @@ pub record Stands (p : Progress) (column due : ℕ) (f b : Extent) (before : Lis
   pub forward-is : q .extents .forward ≡ f
   pub backward-is : q .extents .backward ≡ b
 
--- What a command at a column touches of the reference whose vectors stand in a word: its reach if its type has a vector to it, else nothing.
-abbrev pub reachBy : ℕ → ℕ → Progress → ℕ → List ℕ → Extent
-reachBy alone word p column ws = cond (usesVector alone (wordAt ws 1)) (reachIn p column (wordAt ws word)) emptyExtent
-
 -- What a command comes to whose tests found the ends `f′` and `b′`: its rules hold, and what is touched of both references, `f` and `b` before it, is
--- joined with what it touches of them.
+-- joined with what it touches of them; its vectors keep their lines.
 pub record Comes (p q : Progress) (column : ℕ) (f b : Extent) (ws : List ℕ) (f′ b′ : ℕ) : Type 0 where
-  pub joins : Joins q ws (joined f (reachBy 0x100 5 p column ws)) (joined b (reachBy 0x200 6 p column ws))
-  pub forward-end : f′ ≡ joined f (reachBy 0x100 5 p column ws) .end
-  pub backward-end : b′ ≡ joined b (reachBy 0x200 6 p column ws) .end
-  pub forward-fits : usesVector 0x100 (wordAt ws 1) ≡ true → ForwardFits p column (wordAt ws 5)
-  pub backward-fits : usesVector 0x200 (wordAt ws 1) ≡ true → BackwardFits p column (wordAt ws 6)
+  pub joins : Joins q ws (reached (p .frame .surface) (placeIn p column) (forwardPoints p ws) f) (reached (p .frame .surface) (placeIn p column) (backwardPoints p ws) b)
+  pub forward-end : f′ ≡ reached (p .frame .surface) (placeIn p column) (forwardPoints p ws) f .end
+  pub backward-end : b′ ≡ reached (p .frame .surface) (placeIn p column) (backwardPoints p ws) b .end
+  pub forward-fits : AllFit (acrossOf (p .picture .grid) (p .picture .forward)) (downOf (p .picture .grid) (p .picture .forward)) (placeIn p column) (forwardPoints p ws)
+  pub backward-fits : AllFit (acrossOf (p .picture .grid) (p .picture .backward)) (downOf (p .picture .grid) (p .picture .backward)) (placeIn p column) (backwardPoints p ws)

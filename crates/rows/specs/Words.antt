@@ -14,6 +14,14 @@ use Rattle.placement.specs.Placing.{zeroVectors}
 abbrev pub lowHalf : ℕ → ℕ
 lowHalf w = withBits w 31 16 0
 
+-- Word 1 without its upper half and, where bit 15 is free, without that.
+abbrev pub typeBits : Bool → ℕ → ℕ
+typeBits free one = withBits one 31 (cond free 15 16) 0
+
+-- Word 4 of a field prediction without its choices.
+abbrev pub withoutChoices : ℕ → ℕ
+withoutChoices four = withBits (withBits four 18 18 0) 16 16 0
+
 -- Word 4 without the bits that a macroblock is free to set.
 unfoldable pub boundBits : ℕ → ℕ
 boundBits four = withBits (withBits (withBits four 31 31 0) 27 25 0) 4 0 0
@@ -43,6 +51,7 @@ pub record Repeated (before ws : List ℕ) : Type 0 where
 pub record SkipKept (coding : ℕ) (before ws : List ℕ) : Type 0 where
   pub pattern : lowHalf (wordAt ws 3) ≡ 0
   pub inside-slice : bits (wordAt ws 4) 31 30 ≡ 0
+  pub frame-dct : bits (wordAt ws 1) 15 15 ≡ 0
   pub allowed : ((coding ≡ 2) × (zeroVectors ws ≡ true)) ⊎ ((coding ≡ 2 → ⊥) × Repeated before ws)
 
 pub record InterKept (coding : ℕ) (before ws : List ℕ) : Type 0 where
@@ -51,3 +60,9 @@ pub record InterKept (coding : ℕ) (before ws : List ℕ) : Type 0 where
   pub fixed-high : bits (wordAt ws 3) 15 12 ≡ 0
   pub fixed-low : bits (wordAt ws 3) 5 0 ≡ 0
   pub skips : (bits (wordAt ws 1) 2 2 ≡ 0) ⊎ SkipKept coding before ws
+
+pub record FieldKept (ws : List ℕ) : Type 0 where
+  pub six : wordAt ws 5 ≡ wordAt ws 6
+  pub eight : wordAt ws 5 ≡ wordAt ws 8
+  pub fixed-high : bits (wordAt ws 3) 15 12 ≡ 0
+  pub fixed-low : bits (wordAt ws 3) 5 0 ≡ 0

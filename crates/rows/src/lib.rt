@@ -1,5 +1,6 @@
 // The MACROBLOCK commands of one row of the picture, as they are judged at speed. Nothing here is a rule: all of it is proved
 // against the rules of single commands.
+use macroblock::Allowed;
 use prediction::Line;
 use progress::Progress;
 
@@ -9,12 +10,14 @@ pub struct Taken {
     pub used: usize,
 }
 
-// The lines of a picture's columns and rows, under the f codes of both references.
+// The lines of a picture's columns and rows, under the f codes of both references, those of its fields' rows, and what the picture allows.
 pub struct Lines {
     pub forward_x: Line,
     pub forward_y: Line,
+    pub field_y: Line,
     pub backward_x: Line,
     pub backward_y: Line,
+    pub allowed: Allowed,
 }
 
 // What one command came to: taken, with the ends of what is touched of both references after it, or left.
