@@ -21,7 +21,7 @@ ghost use Rattle.prediction.specs.declared.Structure.the-variants.{Frame};
 ghost use Rattle.placement.specs.Blocks.{fieldOf, forwardOf, backwardOf, bottomOf, extentIn, predictedIn, predicted, blocksOf};
 
 // The field that is chosen.
-fn field_of(bottom: bool) -> Structure
+pub fn field_of(bottom: bool) -> Structure
     ensures { λ r. ⌜ r ≡ fieldOf bottom ⌝ }
 {
     if bottom {

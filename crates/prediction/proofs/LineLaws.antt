@@ -227,6 +227,24 @@ above-floor k s at column l m w right t =
       omega (arith, ap (λ (e : Extent). e .end) (is ∙ block-is k s at (pair (subℕ x 32768) (subℕ y 32768)))),
     )
 
+floors-wide : (s : Surface) (column a row b : ℕ) → 16 ≤ s .pitch → floorOf TopField s column a row b ≤ floorOf BottomField s column a row b
+unfolding floorOf
+floors-wide s column a row b wide =
+    let r = (2 * (8 * row) + b - 32768) / 2 in
+    simp (le-leb 16 (s .pitch) wide) (omega (arith, address-row (s .pitch) ((32 * column + a - 32768) / 2) (2 * r) (2 * r + 1) wide (omega arith)))
+
+floors-narrow : (s : Surface) (column a row b : ℕ) → s .pitch < 16 → floorOf TopField s column a row b ≤ floorOf BottomField s column a row b
+unfolding floorOf
+floors-narrow s column a row b narrow = simp (lt-leb 16 (s .pitch) narrow) (omega arith)
+
+-- The top field's floor is one of the bottom field too.
+pub field-floor : (s : Surface) (column a row b : ℕ) → floorOf TopField s column a row b ≤ floorOf BottomField s column a row b
+field-floor s column a row b = by (split (s .pitch) 16)
+  where
+    by : (s .pitch < 16) ⊎ (16 ≤ s .pitch) → floorOf TopField s column a row b ≤ floorOf BottomField s column a row b
+    by (inl h) = floors-narrow s column a row b h
+    by (inr h) = floors-wide s column a row b h
+
 -- On a surface whose pitch is a 32-bit number the first byte is a 64-bit number.
 row-fits : (k : Structure) (place v y : ℕ) → place < 65536 → y < 65536 → v + 32768 ≡ 2 * (rowsIn k luma * place) + y → rowOf k (v / 2) ≤ 1081343
 row-fits Frame place v y hp hy e = omega arith

@@ -1,5 +1,5 @@
 -- The commands of a row so far: what the loop of `take_row` keeps.
-use mathlib.Core.Bool.{Bool, true, false, cond, not}
+use mathlib.Core.Bool.{Bool, true, false, not}
 use mathlib.Core.List.{List, [], _∷_, _++_, append-assoc, append-nil, flatten}
 use mathlib.Core.Logic.{_⊎_, inl, inr}
 use mathlib.Core.Path.{_≡_, refl, sym, ap, ap₂, subst, subst₂, _∙_}
@@ -11,12 +11,11 @@ use lib.ListN.{length, take, drop, length-take, length-drop}
 use lib.Seq.{take-add, getD-drop, getD-take}
 use Rattle.lists.proofs.Slices.{same-part}
 use Rattle.fields.specs.Word.{bits, isSet}
-use Rattle.prediction.specs.Extents.{emptyExtent, joined}
-use Rattle.prediction.specs.Lines.{lineOf}
+use Rattle.prediction.specs.Extents.{joined}
 use Rattle.prediction.specs.declared.Extent.{Extent}
 use Rattle.prediction.proofs.ExtentLaws.{between, join-assoc}
 use Rattle.prediction.proofs.LineLaws.{own-along}
-use Rattle.prediction.specs.declared.Structure.the-variants as structure
+use Rattle.prediction.specs.declared.Structure.{Structure}
 use Rattle.headers.specs.Headers.{macroblockHeader}
 use Rattle.headers.specs.Words.{wordAt}
 use Rattle.answers.specs.Answers.{judged}
@@ -25,8 +24,8 @@ use Rattle.progress.specs.declared.Progress.{Progress}
 use Rattle.placement.specs.Placing.{macroblockRules}
 use Rattle.placement.specs.Progressing.{positionAfter, stageAfter, macroblockNext}
 use Rattle.rows.specs.Rows.{Follow, TakenFrom, previousIn, ownIn, afterRow, AfterRow, OpenRow}
-use Rattle.rows.specs.Steps.{linesOf, placeIn, reachIn, ForwardFits, BackwardFits, Found}
-use Rattle.rows.specs.Touching.{commandAt, usesVector, touchedAfter, forwardAfter, backwardAfter, Seen}
+use Rattle.rows.specs.Steps.{placeIn, reachIn, Found}
+use Rattle.rows.specs.Touching.{commandAt, reached, AllFit, acrossOf, downOf, touchedAfter, forwardPoints, backwardPoints, forwardAfter, backwardAfter, Seen}
 use Rattle.rows.specs.Words.{dueBits}
 use Rattle.rows.specs.declared.Taken.{Taken}
 use Rattle.rows.proofs.Keeping.{accepted}
@@ -82,7 +81,7 @@ fresh-row p ws =
       words-are = refl;
       follow = refl;
       reached = inl (refl, refl);
-      seen = record { forward-end = refl; backward-end = refl; forward-fit = λ k h u. absurd (omega arith); backward-fit = λ k h u. absurd (omega arith) };
+      seen = record { forward-end = refl; backward-end = refl; forward-fit = λ k h. absurd (omega arith); backward-fit = λ k h. absurd (omega arith) };
     }
 
 module _ (p : Progress) (ws : List ℕ) (column due was at f b : ℕ) (row : OpenRow p) (left : column < p .picture .grid .columns) where
@@ -166,18 +165,17 @@ module _ (p : Progress) (ws : List ℕ) (column due was at f b : ℕ) (row : Ope
           (g .at-is ∙ ap (λ (x : ℕ). 9 * x) e) ew eg ed (eq ∙ ap (λ (x : ℕ). afterRow p (p .position .column + i) (forwardAfter p ws (g .k)) (backwardAfter p ws (g .k)) (commandAt ws x)) same)
 
   -- What one more command touches of a reference, by the words of the whole row.
-  touched-more : (alone word k : ℕ) (e : Extent) (c : List ℕ) → c ≡ commandAt ws k → column ≡ p .position .column + k
-      → joined (touchedAfter alone word (p .frame .surface) (p .position) ws k e) (cond (usesVector alone (wordAt c 1)) (reachIn p column (wordAt c word)) emptyExtent)
-      ≡ touchedAfter alone word (p .frame .surface) (p .position) ws (k + 1) e
-  touched-more alone word k e c there ec =
-      ap (joined (touchedAfter alone word (p .frame .surface) (p .position) ws k e))
-      (ap₂ (λ (x : List ℕ) (y : ℕ). cond (usesVector alone (wordAt x 1)) (reachIn p y (wordAt x word)) emptyExtent) there ec)
-      ∙ sym (after-next alone word (p .frame .surface) (p .position) ws k e)
+  touched-more : (points : List ℕ → List (Structure × ℕ)) (k : ℕ) (e : Extent) (c : List ℕ) → c ≡ commandAt ws k → column ≡ p .position .column + k
+      → reached (p .frame .surface) (placeIn p column) (points c) (touchedAfter points (p .frame .surface) (p .position) ws k e)
+      ≡ touchedAfter points (p .frame .surface) (p .position) ws (k + 1) e
+  touched-more points k e c there ec =
+      ap₂ (λ (x : List ℕ) (y : ℕ). reached (p .frame .surface) (placeIn p y) (points x) (touchedAfter points (p .frame .surface) (p .position) ws k e)) there ec
+      ∙ sym (after-next points (p .frame .surface) (p .position) ws k e)
 
   -- Behind one more command that is taken.
   pub go-on : (g : Going p ws column f b at) → Due p ws (g .k) due was → (f′ b′ : ℕ) → at + 9 ≤ length ws
       → Found p column f b (take (at + 9 - at) (drop at ws)) due (take (at - was) (drop was ws)) f′ b′ → Going p ws (column + 1) f′ b′ (at + 9)
-  unfolding before linesOf
+  unfolding before
   go-on g d f′ b′ room found =
       let c = take (at + 9 - at) (drop at ws) in
       let s = stands g d in
@@ -186,8 +184,8 @@ module _ (p : Progress) (ws : List ℕ) (column due was at f b : ℕ) (row : Ope
       let nine : at + 9 - at ≡ 9 = omega arith in
       let there : c ≡ commandAt ws (g .k) = same-part ws nine (g .at-is) in
       let long : length c ≡ 9 = length-take (at + 9 - at) (drop at ws) ∙ omega (arith, length-drop at ws) in
-      let forward = touched-more 0x100 5 (g .k) (p .extents .forward) c there (g .column-is) in
-      let backward = touched-more 0x200 6 (g .k) (p .extents .backward) c there (g .column-is) in
+      let forward = touched-more (forwardPoints p) (g .k) (p .extents .forward) c there (g .column-is) in
+      let backward = touched-more (backwardPoints p) (g .k) (p .extents .backward) c there (g .column-is) in
       record {
         k = g .k + 1;
         column-is = ap (λ (x : ℕ). x + 1) (g .column-is) ∙ add-assoc (p .position .column) (g .k) 1;
@@ -213,11 +211,11 @@ module _ (p : Progress) (ws : List ℕ) (column due was at f b : ℕ) (row : Ope
               forward-end = comes .forward-end ∙ ap (λ (x : Extent). x .end) forward;
               backward-end = comes .backward-end ∙ ap (λ (x : Extent). x .end) backward;
               forward-fit =
-                  fit-more 0x100 5 (p .frame .surface) (p .position) ws (lineOf 16 (p .picture .grid .columns) (p .picture .forward .x)) (lineOf 16 (p .picture .grid .rows) (p .picture .forward .y)) (g .k) (g .seen .forward-fit)
-                  (subst₂ (λ (x : List ℕ) (y : ℕ). usesVector 0x100 (wordAt x 1) ≡ true → ForwardFits p y (wordAt x 5)) there (g .column-is) (comes .forward-fits));
+                  fit-more (forwardPoints p) (p .frame .surface) (p .position) ws (acrossOf (p .picture .grid) (p .picture .forward)) (downOf (p .picture .grid) (p .picture .forward)) (g .k) (g .seen .forward-fit)
+                  (subst₂ (λ (x : List ℕ) (y : ℕ). AllFit (acrossOf (p .picture .grid) (p .picture .forward)) (downOf (p .picture .grid) (p .picture .forward)) (placeIn p y) (forwardPoints p x)) there (g .column-is) (comes .forward-fits));
               backward-fit =
-                  fit-more 0x200 6 (p .frame .surface) (p .position) ws (lineOf 16 (p .picture .grid .columns) (p .picture .backward .x)) (lineOf 16 (p .picture .grid .rows) (p .picture .backward .y)) (g .k) (g .seen .backward-fit)
-                  (subst₂ (λ (x : List ℕ) (y : ℕ). usesVector 0x200 (wordAt x 1) ≡ true → BackwardFits p y (wordAt x 6)) there (g .column-is) (comes .backward-fits));
+                  fit-more (backwardPoints p) (p .frame .surface) (p .position) ws (acrossOf (p .picture .grid) (p .picture .backward)) (downOf (p .picture .grid) (p .picture .backward)) (g .k) (g .seen .backward-fit)
+                  (subst₂ (λ (x : List ℕ) (y : ℕ). AllFit (acrossOf (p .picture .grid) (p .picture .backward)) (downOf (p .picture .grid) (p .picture .backward)) (placeIn p y) (backwardPoints p x)) there (g .column-is) (comes .backward-fits));
             };
       }
 

@@ -3,35 +3,42 @@ use mathlib.Core.Bool.{Bool}
 use mathlib.Core.List.{List}
 use mathlib.Core.Logic.{inl, inr}
 use mathlib.Core.Path.{_≡_, subst, subst₂}
-use Prim.Native.Nat.{ℕ, _+_}
-use lib.Dec.{eqb}
+use Prim.Native.Nat.{ℕ}
 use Rattle.headers.specs.Headers.{macroblockHeader}
 use Rattle.headers.specs.Words.{wordAt}
 use Rattle.progress.specs.declared.Progress.{Progress}
-use Rattle.rows.specs.Steps.{AtWord, typeIn, ByForward, ByBackward, ByBoth, ByInter, StepFrom}
+use Rattle.rows.specs.Steps.{AtWord, typedAs, typeIn, ByForward, ByBackward, ByBoth, ByField, ByFrame, Flagged, ByCoded, StepFrom}
 use Rattle.rows.specs.Words.{FlagsKept, InterKept}
 use Rattle.rows.specs.declared.Step.{Step}
 use Rattle.rows.specs.declared.Step.the-variants.{Kept, Left}
 
 module _ (p : Progress) (column forward backward : ℕ) (ws before : List ℕ) where
   module _ (k : InterKept (p .picture .coding) before ws) where
-    pub from-forward : (r : Step) → typeIn ws ≡ 0x100 → ByForward p column forward backward ws r → ByInter p column forward backward ws before r
+    pub from-forward : (r : Step) → typeIn p ws ≡ 0x100 → ByForward p column forward backward ws r → ByFrame p column forward backward ws before r
     from-forward (Kept f b) t h = (k, inl (h t))
     from-forward Left t h = tt
 
-    pub from-backward : (r : Step) → typeIn ws ≡ 0x200 → ByBackward p column forward backward ws r → ByInter p column forward backward ws before r
+    pub from-backward : (r : Step) → typeIn p ws ≡ 0x200 → ByBackward p column forward backward ws r → ByFrame p column forward backward ws before r
     from-backward (Kept f b) t h = (k, inr (inl (h t)))
     from-backward Left t h = tt
 
-    pub from-both : (r : Step) → typeIn ws ≡ 0x300 → ByBoth p column forward backward ws r → ByInter p column forward backward ws before r
+    pub from-both : (r : Step) → typeIn p ws ≡ 0x300 → ByBoth p column forward backward ws r → ByFrame p column forward backward ws before r
     from-both (Kept f b) t h = (k, inr (inr (h t)))
     from-both Left t h = tt
 
-  pub from-inter : (due : ℕ) (r : Step) → wordAt ws 0 ≡ macroblockHeader → AtWord (wordAt ws 2) column (p .position .row)
-      → FlagsKept (wordAt ws 4) due (eqb (column + 1) (p .picture .grid .columns)) → ByInter p column forward backward ws before r
-      → StepFrom p column forward backward ws due before r
-  from-inter due (Kept f b) h w k i = record { header = h; position = w; flags = k; coded = inr i }
-  from-inter due Left h w k i = tt
+  module _ (due : ℕ) where
+    pub from-field : (r : Step) → typedAs p ws ≡ 0x4401 → ByField p column forward backward ws due r → ByCoded p column forward backward ws due before r
+    from-field (Kept f b) t h = inl (h t)
+    from-field Left t h = tt
+
+    pub from-frame : (r : Step) → Flagged p column forward backward ws due → ByFrame p column forward backward ws before r → ByCoded p column forward backward ws due before r
+    from-frame (Kept f b) k h = inr (k, inr h)
+    from-frame Left k h = tt
+
+    pub from-coded : (r : Step) → wordAt ws 0 ≡ macroblockHeader → AtWord (wordAt ws 2) column (p .position .row) → ByCoded p column forward backward ws due before r
+        → StepFrom p column forward backward ws due before r
+    from-coded (Kept f b) h w i = record { header = h; position = w; coded = i }
+    from-coded Left h w i = tt
 
 pub flags-at : {four four′ due : ℕ} {last last′ : Bool} → FlagsKept four due last → four ≡ four′ → last ≡ last′ → FlagsKept four′ due last′
 flags-at {four} {four′} {due} k e f = subst₂ (λ (x : ℕ) (y : Bool). FlagsKept x due y) e f k

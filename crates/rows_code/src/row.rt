@@ -2,6 +2,7 @@
 use crate::after;
 use crate::looking;
 use crate::stepping;
+use macroblock::Allowed;
 use prediction::Extent;
 use progress::Progress;
 use rows::Step;
@@ -59,6 +60,7 @@ fn forward_after(progress: Progress, end: u64, at: usize, words: &[u32]) -> Exte
         progress.picture.grid,
         progress.position,
         progress.picture.forward,
+        placement_code::allowed_in(progress.picture),
         0x100,
         5,
         looking::lowest(extent),
@@ -79,11 +81,17 @@ fn backward_after(progress: Progress, end: u64, at: usize, words: &[u32]) -> Ext
             end,
         };
     }
+    let allowed = placement_code::allowed_in(progress.picture);
+    let frames = Allowed {
+        dct_type: allowed.dct_type,
+        field: false,
+    };
     let first = looking::first_after(
         progress.frame.surface,
         progress.picture.grid,
         progress.position,
         progress.picture.backward,
+        frames,
         0x200,
         6,
         looking::lowest(extent),

@@ -9,9 +9,7 @@ use rows::Step;
 ghost use mathlib.Core.Path.{_≡_};
 ghost use Prim.Native.Nat.{_+_};
 ghost use lib.Dec.{eqb};
-ghost use Rattle.rows.specs.Words.{lowHalf};
-ghost use Rattle.headers.specs.Words.{wordAt};
-ghost use Rattle.rows.specs.Steps.{linesOf, isPredicted, AtWord, ByForward, ByBackward, ByBoth, ByInter, StepFrom};
+ghost use Rattle.rows.specs.Steps.{linesOf, isPredicted, typedAs, AtWord, ByForward, ByBackward, ByBoth, ByField, ByFrame, ByCoded, StepFrom};
 
 // The lines of a picture.
 pub(crate) fn lines_of(picture: Picture) -> Lines
@@ -21,13 +19,17 @@ pub(crate) fn lines_of(picture: Picture) -> Lines
     let rows = picture.grid.rows;
     let forward_x = prediction_code::line_of(Structure::Frame, columns, picture.forward.x);
     let forward_y = prediction_code::line_of(Structure::Frame, rows, picture.forward.y);
+    let field_y = prediction_code::line_of(Structure::TopField, rows, picture.forward.y);
     let backward_x = prediction_code::line_of(Structure::Frame, columns, picture.backward.x);
     let backward_y = prediction_code::line_of(Structure::Frame, rows, picture.backward.y);
+    let allowed = placement_code::allowed_in(picture);
     Lines {
         forward_x,
         forward_y,
+        field_y,
         backward_x,
         backward_y,
+        allowed,
     }
 }
 
@@ -175,7 +177,63 @@ fn judge_both(
     Step::Kept(first, second)
 }
 
-// An inter macroblock, whose word 1 has this lower half.
+// A macroblock that is predicted from fields, whose word 1 says so.
+fn judge_field(
+    progress: Progress,
+    lines: Lines,
+    column: u16,
+    due: u32,
+    forward: u64,
+    backward: u64,
+    words: &[u32],
+) -> Step
+    requires { ⌜ lines ≡ linesOf (progress .picture) ⌝ }
+    ensures { λ r. ⌜ ByField progress column forward backward (now (words .entry)) due r ⌝ }
+{
+    let surface = progress.frame.surface;
+    let row = progress.position.row;
+    let last = is_last(column, progress.picture.grid.columns);
+    let four = headers_code::word_at(words, 4);
+    let five = headers_code::word_at(words, 5);
+    let seven = headers_code::word_at(words, 7);
+    let x = lines.forward_x;
+    let y = lines.field_y;
+    if !lines.allowed.field {
+        return Step::Left;
+    }
+    if !words::flags_keep(words::without_choices(four), due, last) {
+        return Step::Left;
+    }
+    if !words::field_keeps(words) {
+        return Step::Left;
+    }
+    let top = placement_code::field_of(fields_code::is_set(four, 16));
+    if !prediction_code::vector_in_lines(top, x, y, column, row, five) {
+        return Step::Left;
+    }
+    let bottom = placement_code::field_of(fields_code::is_set(four, 18));
+    if !prediction_code::vector_in_lines(bottom, x, y, column, row, seven) {
+        return Step::Left;
+    }
+    let above = extents::join_ends(
+        forward,
+        prediction_code::reach_end(top, surface.pitch, surface.chroma_row, column, row, five),
+    );
+    let next = extents::join_ends(
+        above,
+        prediction_code::reach_end(
+            bottom,
+            surface.pitch,
+            surface.chroma_row,
+            column,
+            row,
+            seven,
+        ),
+    );
+    Step::Kept(next, backward)
+}
+
+// An inter macroblock that is predicted from frames, whose word 1 has this type.
 fn judge_inter(
     progress: Progress,
     lines: Lines,
@@ -186,8 +244,8 @@ fn judge_inter(
     before: &[u32],
     words: &[u32],
 ) -> Step
-    requires { ⌜ (lines ≡ linesOf (progress .picture)) × (low ≡ lowHalf (wordAt (now words) 1)) ⌝ }
-    ensures { λ r. ⌜ ByInter progress column forward backward (now (words .entry)) (now (before .entry)) r ⌝ }
+    requires { ⌜ (lines ≡ linesOf (progress .picture)) × (low ≡ typedAs progress (now words)) ⌝ }
+    ensures { λ r. ⌜ ByFrame progress column forward backward (now (words .entry)) (now (before .entry)) r ⌝ }
 {
     let coding = progress.picture.coding;
     if !words::inter_keeps(coding, before, words) {
@@ -219,8 +277,8 @@ fn is_last(column: u16, columns: u16) -> bool
     column as u32 + 1 == columns as u32
 }
 
-// The command at a column of the progress's row. `due` are the bound bits of its word 4, `before` the command before it in the row.
-pub(crate) fn judge_next(
+// What a command behind its words 0 and 2 comes to, by its type.
+fn judge_coded(
     progress: Progress,
     lines: Lines,
     column: u16,
@@ -231,21 +289,17 @@ pub(crate) fn judge_next(
     words: &[u32],
 ) -> Step
     requires { ⌜ lines ≡ linesOf (progress .picture) ⌝ }
-    ensures { λ r. ⌜ StepFrom progress column forward backward (now (words .entry)) due (now (before .entry)) r ⌝ }
+    ensures { λ r. ⌜ ByCoded progress column forward backward (now (words .entry)) due (now (before .entry)) r ⌝ }
 {
     let coding = progress.picture.coding;
-    let here = place_word(column, progress.position.row);
+    let low = words::type_bits(lines.allowed.dct_type, headers_code::word_at(words, 1));
     let last = is_last(column, progress.picture.grid.columns);
-    if headers_code::word_at(words, 0) != headers::MACROBLOCK_HEADER {
-        return Step::Left;
-    }
-    if headers_code::word_at(words, 2) != here {
-        return Step::Left;
+    if low == 0x4401 {
+        return judge_field(progress, lines, column, due, forward, backward, words);
     }
     if !words::flags_keep(headers_code::word_at(words, 4), due, last) {
         return Step::Left;
     }
-    let low = fields_code::with_bits(headers_code::word_at(words, 1), 31, 16, 0);
     if low != 0x3a00 {
         return judge_inter(
             progress,
@@ -262,4 +316,37 @@ pub(crate) fn judge_next(
         return Step::Left;
     }
     Step::Kept(forward, backward)
+}
+
+// The command at a column of the progress's row. `due` are the bound bits of its word 4, `before` the command before it in the row.
+pub(crate) fn judge_next(
+    progress: Progress,
+    lines: Lines,
+    column: u16,
+    due: u32,
+    forward: u64,
+    backward: u64,
+    before: &[u32],
+    words: &[u32],
+) -> Step
+    requires { ⌜ lines ≡ linesOf (progress .picture) ⌝ }
+    ensures { λ r. ⌜ StepFrom progress column forward backward (now (words .entry)) due (now (before .entry)) r ⌝ }
+{
+    let here = place_word(column, progress.position.row);
+    if headers_code::word_at(words, 0) != headers::MACROBLOCK_HEADER {
+        return Step::Left;
+    }
+    if headers_code::word_at(words, 2) != here {
+        return Step::Left;
+    }
+    judge_coded(
+        progress,
+        lines,
+        column,
+        due,
+        forward,
+        backward,
+        before,
+        words,
+    )
 }

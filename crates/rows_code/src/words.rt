@@ -1,7 +1,25 @@
 // Tests of the words of a MACROBLOCK command, each for all rules that it can answer at once.
 ghost use mathlib.Core.Bool.{true};
 ghost use mathlib.Core.Path.{_≡_};
-ghost use Rattle.rows.specs.Words.{boundBits, FlagsKept, IntraKept, Repeated, SkipKept, InterKept};
+ghost use Rattle.rows.specs.Words.{typeBits, withoutChoices, boundBits, FlagsKept, IntraKept, Repeated, SkipKept, InterKept, FieldKept};
+
+// Word 1 without its upper half and, where bit 15 is free, without that.
+pub(crate) fn type_bits(free: bool, one: u32) -> u32
+    ensures { λ r. ⌜ r ≡ typeBits free one ⌝ }
+{
+    if free {
+        return fields_code::with_bits(one, 31, 15, 0);
+    }
+    fields_code::with_bits(one, 31, 16, 0)
+}
+
+// Word 4 of a field prediction without its choices.
+pub(crate) fn without_choices(four: u32) -> u32
+    ensures { λ r. ⌜ r ≡ withoutChoices four ⌝ }
+{
+    let below_18 = fields_code::with_bits(four, 18, 18, 0);
+    fields_code::with_bits(below_18, 16, 16, 0)
+}
 
 // Word 4 without the bits that a macroblock is free to set: 31, 27:25 and 4:0.
 fn bound_bits(four: u32) -> u32
@@ -86,12 +104,16 @@ fn repeats(before: &[u32], words: &[u32]) -> bool
 fn skip_keeps(coding: u8, before: &[u32], words: &[u32]) -> bool
     ensures { λ r. ⌜ (r ≡ true → SkipKept coding (now (before .entry)) (now (words .entry))) ⌝ }
 {
+    let one = headers_code::word_at(words, 1);
     let three = headers_code::word_at(words, 3);
     let four = headers_code::word_at(words, 4);
     if fields_code::with_bits(three, 31, 16, 0) != 0 {
         return false;
     }
     if fields_code::bits(four, 31, 30) != 0 {
+        return false;
+    }
+    if fields_code::bits(one, 15, 15) != 0 {
         return false;
     }
     if coding == 2 {
@@ -122,4 +144,25 @@ pub(crate) fn inter_keeps(coding: u8, before: &[u32], words: &[u32]) -> bool
         return true;
     }
     skip_keeps(coding, before, words)
+}
+
+// Whether words 3, 6 and 8 of a field prediction are as they have to be.
+pub(crate) fn field_keeps(words: &[u32]) -> bool
+    ensures { λ r. ⌜ (r ≡ true → FieldKept (now (words .entry))) ⌝ }
+{
+    let three = headers_code::word_at(words, 3);
+    let five = headers_code::word_at(words, 5);
+    if five != headers_code::word_at(words, 6) {
+        return false;
+    }
+    if five != headers_code::word_at(words, 8) {
+        return false;
+    }
+    if fields_code::bits(three, 15, 12) != 0 {
+        return false;
+    }
+    if fields_code::bits(three, 5, 0) != 0 {
+        return false;
+    }
+    true
 }

@@ -3,10 +3,7 @@ use Rattle.placement.specs.Placing.{allowedIn}
 use borrow.Author.Needs.{needs}
 use Rattle.placement_code.proofs.placing.allowed_in.Statement.{statement}
 use Rattle.placement_code.proofs.placing.allowed_in.Tie as tie
-use Rattle.placement_code.proofs.placing.allowed_in.Reads as reads
-use Rattle.placement_code.proofs.placing.allowed_in.Lts as lts
 
--- src/placing.rt:30:1
 returns : tie.Need-returns
 unfolding allowedIn
 returns c = search needs

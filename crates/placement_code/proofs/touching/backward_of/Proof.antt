@@ -7,58 +7,45 @@ use Rattle.placement.specs.Blocks.{backwardOf}
 use borrow.Author.Needs.{needs}
 use Rattle.placement_code.proofs.touching.backward_of.Statement.{statement}
 use Rattle.placement_code.proofs.touching.backward_of.Tie as tie
-use Rattle.placement_code.proofs.touching.backward_of.Reads as reads
-use Rattle.placement_code.proofs.touching.backward_of.Lts as lts
 
 -- what the matches told of the case
 inter : {case : Case} {by x : Prediction} → case ≡ Inter by → by ≡ x → backwardOf (Inter x) ≡ backwardOf case
 inter e f = ap (λ (y : Prediction). backwardOf (Inter y)) (sym f) ∙ ap backwardOf (sym e)
 
--- src/touching.rt:51:24
 enum-told : tie.Need-enum-told
 enum-told c = search needs
 
--- src/touching.rt:52:21
 enum-known-case : tie.Need-enum-known-case
 enum-known-case c = search needs
 
--- src/touching.rt:53:39
 enum-told-2 : tie.Need-enum-told-2
 enum-told-2 c = search needs
 
--- src/touching.rt:54:34
 enum-known-by : tie.Need-enum-known-by
 enum-known-by c = search needs
 
--- src/touching.rt:55:33
 enum-known-by-2 : tie.Need-enum-known-by-2
 enum-known-by-2 c = search needs
 
--- src/touching.rt:56:46
 enum-told-3 : tie.Need-enum-told-3
 enum-told-3 c = search needs
 
--- src/touching.rt:47:1
 returns : tie.Need-returns
 unfolding backwardOf
 returns c = ap backwardOf (sym (c .enum-told .given .1))
 
--- src/touching.rt:47:1
 returns-2 : tie.Need-returns-2
 unfolding backwardOf
 returns-2 c = inter (c .before .before .before .case .given .1) (c .enum-told2 .given .1)
 
--- src/touching.rt:47:1
 returns-3 : tie.Need-returns-3
 unfolding backwardOf
 returns-3 c = inter (c .before .before .before .before .case .given .1) (c .before .by .given .1)
 
--- src/touching.rt:47:1
 returns-4 : tie.Need-returns-4
 unfolding backwardOf
 returns-4 c = inter (c .before .before .before .before .case .given .1) (c .before .by2 .given .1)
 
--- src/touching.rt:47:1
 returns-5 : tie.Need-returns-5
 unfolding backwardOf
 returns-5 c = inter (c .before .before .before .case .given .1) (c .enum-told3 .given .1)

@@ -12,15 +12,11 @@ use Rattle.placement.specs.Blocks.{fieldOf, bottomOf}
 use borrow.Author.Needs.{needs}
 use Rattle.placement_code.proofs.touching.bottom_of.Statement.{statement}
 use Rattle.placement_code.proofs.touching.bottom_of.Tie as tie
-use Rattle.placement_code.proofs.touching.bottom_of.Reads as reads
-use Rattle.placement_code.proofs.touching.bottom_of.Lts as lts
-use Rattle.placement_code.proofs.touching.field_of.Reads as field-of-reads
 
 -- what the matches told of the case
 inter : {case : Case} {by x : Prediction} → case ≡ Inter by → by ≡ x → bottomOf (Inter x) ≡ bottomOf case
 inter e f = ap (λ (y : Prediction). bottomOf (Inter y)) (sym f) ∙ ap bottomOf (sym e)
 
--- src/touching.rt:65:24
 fields : {case : Case} {by : Prediction} {k : Structure} {t b : Vector} {i j : Bool} → k ≡ fieldOf j → case ≡ Inter by → by ≡ Field t b i j → At k b ≡ bottomOf case
 unfolding bottomOf
 fields {t = t} {b = b} e f g = ap (λ (x : Structure). At x b) e ∙ inter f g
@@ -28,51 +24,40 @@ fields {t = t} {b = b} e f g = ap (λ (x : Structure). At x b) e ∙ inter f g
 enum-told : tie.Need-enum-told
 enum-told c = search needs
 
--- src/touching.rt:66:21
 enum-known-case : tie.Need-enum-known-case
 enum-known-case c = search needs
 
--- src/touching.rt:67:39
 enum-told-2 : tie.Need-enum-told-2
 enum-told-2 c = search needs
 
--- src/touching.rt:68:40
 enum-told-3 : tie.Need-enum-told-3
 enum-told-3 c = search needs
 
--- src/touching.rt:69:39
 enum-told-4 : tie.Need-enum-told-4
 enum-told-4 c = search needs
 
--- src/touching.rt:70:34
 enum-known-by : tie.Need-enum-known-by
 enum-known-by c = search needs
 
--- src/touching.rt:70:70
 field-of-requires : tie.Need-field-of-requires
 field-of-requires c κs = search needs
 
--- src/touching.rt:61:1
 returns : tie.Need-returns
 unfolding bottomOf
 returns c = ap bottomOf (sym (c .enum-told .given .1))
 
--- src/touching.rt:61:1
 returns-2 : tie.Need-returns-2
 unfolding bottomOf
 returns-2 c = inter (c .before .before .before .case .given .1) (c .enum-told2 .given .1)
 
--- src/touching.rt:61:1
 returns-3 : tie.Need-returns-3
 unfolding bottomOf
 returns-3 c = inter (c .before .before .before .case .given .1) (c .enum-told3 .given .1)
 
--- src/touching.rt:61:1
 returns-4 : tie.Need-returns-4
 unfolding bottomOf
 returns-4 c = inter (c .before .before .before .case .given .1) (c .enum-told4 .given .1)
 
--- src/touching.rt:61:1
 returns-5 : tie.Need-returns-5
 returns-5 c = fields (c .field-of .ensures) (c .before .before .before .before .before .case .given .1) (c .before .before .by .given .1)
 

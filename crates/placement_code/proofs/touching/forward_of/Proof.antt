@@ -12,15 +12,11 @@ use Rattle.placement.specs.Blocks.{fieldOf, forwardOf}
 use borrow.Author.Needs.{needs}
 use Rattle.placement_code.proofs.touching.forward_of.Statement.{statement}
 use Rattle.placement_code.proofs.touching.forward_of.Tie as tie
-use Rattle.placement_code.proofs.touching.forward_of.Reads as reads
-use Rattle.placement_code.proofs.touching.forward_of.Lts as lts
-use Rattle.placement_code.proofs.touching.field_of.Reads as field-of-reads
 
 -- what the matches told of the case
 inter : {case : Case} {by x : Prediction} → case ≡ Inter by → by ≡ x → forwardOf (Inter x) ≡ forwardOf case
 inter e f = ap (λ (y : Prediction). forwardOf (Inter y)) (sym f) ∙ ap forwardOf (sym e)
 
--- src/touching.rt:37:24
 fields : {case : Case} {by : Prediction} {k : Structure} {t b : Vector} {i j : Bool} → k ≡ fieldOf i → case ≡ Inter by → by ≡ Field t b i j → At k t ≡ forwardOf case
 unfolding forwardOf
 fields {t = t} {b = b} e f g = ap (λ (x : Structure). At x t) e ∙ inter f g
@@ -28,51 +24,40 @@ fields {t = t} {b = b} e f g = ap (λ (x : Structure). At x t) e ∙ inter f g
 enum-told : tie.Need-enum-told
 enum-told c = search needs
 
--- src/touching.rt:38:21
 enum-known-case : tie.Need-enum-known-case
 enum-known-case c = search needs
 
--- src/touching.rt:39:33
 enum-known-by : tie.Need-enum-known-by
 enum-known-by c = search needs
 
--- src/touching.rt:40:40
 enum-told-2 : tie.Need-enum-told-2
 enum-told-2 c = search needs
 
--- src/touching.rt:41:30
 enum-known-by-2 : tie.Need-enum-known-by-2
 enum-known-by-2 c = search needs
 
--- src/touching.rt:42:31
 enum-known-by-3 : tie.Need-enum-known-by-3
 enum-known-by-3 c = search needs
 
--- src/touching.rt:42:70
 field-of-requires : tie.Need-field-of-requires
 field-of-requires c κs = search needs
 
--- src/touching.rt:33:1
 returns : tie.Need-returns
 unfolding forwardOf
 returns c = ap forwardOf (sym (c .enum-told .given .1))
 
--- src/touching.rt:33:1
 returns-2 : tie.Need-returns-2
 unfolding forwardOf
 returns-2 c = inter (c .before .before .before .before .case .given .1) (c .before .by .given .1)
 
--- src/touching.rt:33:1
 returns-3 : tie.Need-returns-3
 unfolding forwardOf
 returns-3 c = inter (c .before .before .before .case .given .1) (c .enum-told2 .given .1)
 
--- src/touching.rt:33:1
 returns-4 : tie.Need-returns-4
 unfolding forwardOf
 returns-4 c = inter (c .before .before .before .before .case .given .1) (c .before .by2 .given .1)
 
--- src/touching.rt:33:1
 returns-5 : tie.Need-returns-5
 returns-5 c = fields (c .field-of .ensures) (c .before .before .before .before .before .case .given .1) (c .before .before .by3 .given .1)
 

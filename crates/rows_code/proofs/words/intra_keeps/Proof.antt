@@ -1,6 +1,5 @@
 -- `intra_keeps`: whether words 3 to 8 of an intra macroblock are as they have to be, word 4 but for the picture's type.
 use mathlib.Core.Logic.{inl, inr}
-use mathlib.Core.Path.{refl}
 use Rattle.lists.proofs.Booleans.{no}
 use Rattle.answers.proofs.Judging.{kept}
 use borrow.Author.Needs.{needs}

@@ -4,79 +4,60 @@ use Rattle.lists.proofs.Booleans.{no}
 use Rattle.rows_code.proofs.words.repeats.Statement.{statement}
 use Rattle.rows_code.proofs.words.repeats.Tie as tie
 
--- src/words.rt:81:9
 word-at-requires : tie.Need-word-at-requires
 word-at-requires c κs = search needs
 
--- src/words.rt:82:9
 word-at-requires-2 : tie.Need-word-at-requires-2
 word-at-requires-2 c κs = search needs
 
--- src/words.rt:84:9
 returns : tie.Need-returns
 returns c = λ e. absurd (no e)
 
--- src/words.rt:86:8
 bits-requires : tie.Need-bits-requires
 bits-requires c κs = search needs
 
--- src/words.rt:86:43
 bits-requires-2 : tie.Need-bits-requires-2
 bits-requires-2 c κs = search needs
 
--- src/words.rt:87:9
 returns-2 : tie.Need-returns-2
 returns-2 c = λ e. absurd (no e)
 
--- src/words.rt:89:8
 word-at-requires-3 : tie.Need-word-at-requires-3
 word-at-requires-3 c κs = search needs
 
--- src/words.rt:89:39
 word-at-requires-4 : tie.Need-word-at-requires-4
 word-at-requires-4 c κs = search needs
 
--- src/words.rt:90:9
 returns-3 : tie.Need-returns-3
 returns-3 c = λ e. absurd (no e)
 
--- src/words.rt:92:8
 word-at-requires-5 : tie.Need-word-at-requires-5
 word-at-requires-5 c κs = search needs
 
--- src/words.rt:92:39
 word-at-requires-6 : tie.Need-word-at-requires-6
 word-at-requires-6 c κs = search needs
 
--- src/words.rt:93:9
 returns-4 : tie.Need-returns-4
 returns-4 c = λ e. absurd (no e)
 
--- src/words.rt:95:8
 word-at-requires-7 : tie.Need-word-at-requires-7
 word-at-requires-7 c κs = search needs
 
--- src/words.rt:95:39
 word-at-requires-8 : tie.Need-word-at-requires-8
 word-at-requires-8 c κs = search needs
 
--- src/words.rt:96:9
 returns-5 : tie.Need-returns-5
 returns-5 c = λ e. absurd (no e)
 
--- src/words.rt:98:8
 word-at-requires-9 : tie.Need-word-at-requires-9
 word-at-requires-9 c κs = search needs
 
--- src/words.rt:98:39
 word-at-requires-10 : tie.Need-word-at-requires-10
 word-at-requires-10 c κs = search needs
 
--- src/words.rt:99:9
 returns-6 : tie.Need-returns-6
 returns-6 c = λ e. absurd (no e)
 
--- src/words.rt:78:1
 returns-7 : tie.Need-returns-7
 returns-7 c = search needs
 
