@@ -20,7 +20,7 @@ use Rattle.progress.specs.Progress.{fresh}
 use Rattle.progress.specs.declared.Progress.{Progress}
 use Rattle.progress.specs.declared.Verdict.the-variants.{Next}
 use Rattle.placement.specs.Progressing.{macroblockNext}
-use Rattle.placement.specs.Touching.{referenceIn, TouchedBy}
+use Rattle.placement.specs.Touching.{referencesIn, TouchedBy}
 use Rattle.placement.proofs.PositionLaws.{in-group, position-of}
 use Rattle.placement.proofs.TouchLaws.{next-exact}
 use Rattle.sequence.specs.Judging.{judge}
@@ -40,7 +40,7 @@ position x y = record { column = x; row = y }
 module _ (b : Buffer) where
   -- One macroblock at a position, and the macroblocks of a list of which the first is the j-th.
   abbrev By : Surface → Position → List ℕ → ℕ → Type 0
-  By s at m byte = TouchedBy s at (referenceIn b (macroblockOf m .case)) byte
+  By s at m byte = TouchedBy s at (referencesIn b (macroblockOf m .case)) byte
 
   abbrev From : Surface → ℕ → ℕ → List (List ℕ) → ℕ → Type 0
   From s w j [] byte = ⊥

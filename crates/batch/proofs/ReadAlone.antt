@@ -11,7 +11,7 @@ use Rattle.headers.specs.Headers.{headerOf, wordsIn, begins}
 use Rattle.headers.specs.Words.{wordAt}
 use Rattle.headers.specs.declared.Opcode.the-variants.{Macroblock}
 use Rattle.headers.proofs.HeaderLaws.{macroblock-word, macroblock-words}
-use Rattle.macroblock.specs.Rules.{commandRules}
+use Rattle.macroblock.specs.Rules.{alone, commandRules}
 use Rattle.progress.specs.Progress.{fresh}
 use Rattle.progress.specs.declared.Progress.{Progress}
 use Rattle.placement.proofs.MacroblockLaws.{alone-kept}
@@ -25,7 +25,7 @@ use Rattle.batch.specs.Listed.{Run, Alone, AllAlone}
 
 -- one MACROBLOCK command
 read-alone : (c : Command) → begins Macroblock (c .header) ≡ true → c .header ≡ headerOf (wordAt (c .words) 0) → wordsIn (c .header) ≤ length (c .words)
-    → judged (commandRules (c .words)) ≡ Accepted → Alone (c .words)
+    → judged (commandRules alone (c .words)) ≡ Accepted → Alone (c .words)
 read-alone c b h l k =
     let b' : begins Macroblock (headerOf (wordAt (c .words) 0)) ≡ true = ap (begins Macroblock) (sym h) ∙ b in
     let n : wordsIn (c .header) ≡ 9 = ap wordsIn h ∙ macroblock-words (wordAt (c .words) 0) b' in

@@ -1,5 +1,6 @@
 -- Whole batches beside document 01's P1 to P13, and what document 01 says of each.
--- To be believed: numbers, places, lengths and first bytes are worked out by hand from document 01 and from R-3 and R-8 of document 02.
+-- To be believed: numbers, places, lengths and first bytes are worked out by hand from document 01 and from R-3, R-6 and R-8 of
+-- document 02.
 use Prim.Native.Nat.{ℕ, _+_}
 use mathlib.Core.List.{List, [], _∷_, _++_}
 use lib.ListN.{length, take, drop, set, replicate}
@@ -329,6 +330,100 @@ orderCases =
     ∷ refusedCase (bPicture ++ (1 ∷ [])) (fourLengths 0 0 0 0) 12 82
     ∷ []
 
+-- A P picture with bit 10 = 0, W 1, H 2, pitch 128 and C 32: it has 46 words, its macroblocks begin at 27 and 36, END at 45. Forward f codes 1
+-- and 2: a field's vector from −16 to 15 both ways. A byte b, row r is at (r div 32)·4096 + (r mod 32)·16 + b. Own samples end with Cr (7, 15),
+-- row 47, byte 15, at 4096 + 240 + 15 = 4351.
+unfoldable pub adaptivePicture : List ℕ
+adaptivePicture =
+    (0x70010004 ∷ 0 ∷ 0x007C00F0 ∷ 0x480003FB ∷ 0x20 ∷ unread 1)
+    ++ (0x7300000B ∷ 0xFF213000 ∷ 0x400 ∷ 0x00010000 ∷ unread 9)
+    ++ group
+    -- Intra, with dct type 1.
+    ++ macroblock 0xBA00 0x00000000 0xFC0 0xC1000001 (alike 0)
+    -- Type 04h. The top field's vector (0, −5): luma from field row 8 − 3 = 5 to 13, chroma −2, from field row 4 − 1 = 3 to 6. The bottom field's
+    -- (0, −16): luma from field row 0 to 7, chroma −8, from 0 to 3. Both are predicted from the reference's bottom field. The lowest byte is the
+    -- bottom field's, luma row 2·0 + 1, at 16; the highest is the top field's, Cr row 32 + 2·6 + 1 = 45, at 4096 + 208 + 15 = 4319.
+    ++ macroblock 0x4401 0x00010000 0 0xC4050001 (four 0xFFFB0000 0xFFFB0000 0xFFF00000 0xFFFB0000)
+    ++ end
+
+-- .. with this word 1 or 4 of its second macroblock, or with these words 5 to 8; behind PICTURE words 1 and 2, and its intra one with dct type 0.
+abbrev withType : ℕ → List ℕ
+withType w1 = set adaptivePicture 37 w1
+
+abbrev withChoices : ℕ → List ℕ
+withChoices w4 = set adaptivePicture 40 w4
+
+abbrev withFields : ℕ → ℕ → List ℕ
+withFields top bottom = written adaptivePicture 41 (four top top bottom top)
+
+abbrev behindPicture : ℕ → ℕ → ℕ → List ℕ
+behindPicture w1 w2 type = set (set (written adaptivePicture 7 (w1 ∷ w2 ∷ [])) 28 0x3A00) 37 type
+
+-- The four choices. From the top field the lowest byte is of row 2·0, at 0, and the highest of Cr row 32 + 2·6 = 44, at 4096 + 192 + 15 = 4303.
+-- Bit 16 is the top field's choice, so the length's; bit 18 the bottom field's, so the first byte's.
+unfoldable pub adaptiveCases : List BatchCase
+adaptiveCases =
+    accepted adaptivePicture 4352 4352 4320 0 (four 0 0 16 0)
+    ∷ accepted (withChoices 0xC4010001) 4352 4352 4320 0 (four 0 0 0 0)
+    ∷ accepted (withChoices 0xC4040001) 4352 4352 4304 0 (four 0 0 16 0)
+    ∷ accepted (withChoices 0xC4000001) 4352 4352 4304 0 (four 0 0 0 0)
+    ∷ batchCase adaptivePicture (fourLengths 4352 4352 4319 0) 13 2 (four 4352 4352 4320 0 ++ four 0 0 16 0)
+    -- type 1 with (0, −16): luma from row 8, at 128, chroma −8, Cr (7, 11), row 43, at 4096 + 176 + 15 = 4287
+    ∷ accepted (set (written (withType 0x100) 40 (0xC4000001 ∷ alike 0xFFF00000)) 28 0x3A00) 4352 4352 4288 0 (four 0 0 128 0)
+    -- dct type 1 with 04h, in I, and with each type in B: nothing is touched otherwise
+    ∷ accepted (withType 0xC401) 4352 4352 4320 0 (four 0 0 16 0)
+    ∷ accepted (set (set (set iPicture 7 0xFFFF3000) 28 0xBA00) 73 0xBA00) 9600 9600 0 0 (four 0 0 0 0)
+    ∷ accepted (set (set (set (set (set bPicture 7 0x43213000) 28 0x12348100) 37 0x8200) 46 0x8300) 73 0xBA00) 9600 9600 9592 9472 (four 0 0 231 15)
+    -- 04h as the first macroblock of the P picture. The top field's vector (2, 0) in the bottom field: luma (1, 1), at 16 + 1. The bottom
+    -- field's (63, 15) in the top field, as far as it goes: chroma 31 and 7, columns 15 to 23, field rows 3 to 7; Cr (23, 7), row 40 + 14 = 54,
+    -- column 47, at 8192 + 1024 + 352 + 15 = 9583.
+    ∷ accepted (written (set pPicture 7 0xFF233000) 28 (0x4401 ∷ 0 ∷ 0x40 ∷ 0x41010001 ∷ four 2 2 0x000F003F 2)) 9600 9600 9584 0 (four 0 0 17 0)
+    ∷ []
+
+-- Document 02 (R-6): "The range and inside tests report word 5 or 7"; "Intra, other types, and 04h where not allowed keep bits 14 and 1:0 zero.
+-- Wrong bits 15, 14 or 1:0, and word 4 bits 16 or 18 set on another type, give 4; a skipped type 04h gives 11".
+unfoldable pub adaptiveRefusals : List BatchCase
+adaptiveRefusals =
+    -- the bottom field's vector (0, 1), field rows 8 to 16, and (1, −16), columns 0 to 16; the top field's (0, 1)
+    refused (withFields 0xFFFB0000 0x00010000) 10 43
+    ∷ refused (withFields 0xFFFB0000 0xFFF00001) 10 43
+    ∷ refused (withFields 0x00010000 0xFFF00000) 10 41
+    -- forward y code 1, and so from −8 to 7: the bottom field's vector (0, −16), and the top field's (0, −9), both inside
+    ∷ refused (set adaptivePicture 7 0xFF113000) 9 43
+    ∷ refused (set (withFields 0xFFF70000 0xFFF80000) 7 0xFF113000) 9 41
+    -- beyond and outside: (0, −17), (0, 16)
+    ∷ refused (withFields 0xFFFB0000 0xFFEF0000) 9 43
+    ∷ refused (withFields 0x00100000 0xFFF00000) 9 41
+    -- "6 and 8 copy 5": the bottom field's vector in word 6, in word 8
+    ∷ refused (set adaptivePicture 42 0xFFF00000) 8 42
+    ∷ refused (set adaptivePicture 44 0xFFF00000) 8 44
+    -- 04h in B, in I and with bit 10 = 1: its bits 14 and 1:0, and without them
+    ∷ refused (behindPicture 0x43213000 0x600 0x4401) 4 37
+    ∷ refused (behindPicture 0x43213000 0x600 0x400) 5 37
+    ∷ refused (behindPicture 0xFFFF3000 0x200 0x4401) 4 37
+    ∷ refused (behindPicture 0xFFFF3000 0x200 0x400) 5 37
+    ∷ refused (behindPicture 0xFF213400 0x400 0x4401) 4 37
+    ∷ refused (behindPicture 0xFF213400 0x400 0x400) 5 37
+    -- bit 14 alone, bits 1:0 alone, bits 1:0 = 3, and neither; both on type 1
+    ∷ refused (withType 0x4400) 4 37
+    ∷ refused (withType 0x401) 4 37
+    ∷ refused (withType 0x4403) 4 37
+    ∷ refused (withType 0x400) 4 37
+    ∷ refused (withType 0x4101) 4 37
+    -- bit 15 with bit 10 = 1, on an intra one; on a skipped one
+    ∷ refused (set adaptivePicture 7 0xFF213400) 4 28
+    ∷ refused (set (set pPicture 7 0xFF233000) 37 0x8104) 4 37
+    -- bits 16 and 18 of word 4 on an intra macroblock and on type 1; bits 17 and 19
+    ∷ refused (set adaptivePicture 31 0xC1010001) 4 31
+    ∷ refused (set adaptivePicture 31 0xC1040001) 4 31
+    ∷ refused (written (withType 0x100) 40 (0xC4010001 ∷ alike 0)) 4 40
+    ∷ refused (written (withType 0x100) 40 (0xC4040001 ∷ alike 0)) 4 40
+    ∷ refused (withChoices 0xC4020001) 4 40
+    ∷ refused (withChoices 0xC4080001) 4 40
+    -- a skipped 04h that would keep the other skip rules
+    ∷ refused (set (set pPicture 7 0xFF233000) 37 0x4405) 11 37
+    ∷ []
+
 unfoldable pub batches : List BatchCase
 batches =
     lengthCases
@@ -338,3 +433,5 @@ batches =
     ++ vectorCases
     ++ skipCases
     ++ orderCases
+    ++ adaptiveCases
+    ++ adaptiveRefusals

@@ -15,7 +15,7 @@ use Rattle.answers.specs.Answers.{judged}
 use Rattle.answers.specs.declared.Answer.the-variants.{Accepted}
 use Rattle.headers.specs.Headers.{macroblockHeader}
 use Rattle.headers.specs.Words.{wordAt}
-use Rattle.macroblock.specs.Rules.{commandRules}
+use Rattle.macroblock.specs.Rules.{alone, commandRules}
 use Rattle.sequence.specs.Sound.{haveCome}
 
 -- From progress `p` to progress `q` by commands, none of which is refused.
@@ -39,7 +39,7 @@ pub record Listed (ws : List ℕ) (p : Progress) : Type 0 where
 pub record Alone (m : List ℕ) : Type 0 where
   pub header : wordAt m 0 ≡ macroblockHeader
   pub nine : 9 ≤ length m
-  pub kept : judged (commandRules m) ≡ Accepted
+  pub kept : judged (commandRules alone m) ≡ Accepted
 
 abbrev pub AllAlone : List (List ℕ) → Type 0
 AllAlone [] = Unit {0}

@@ -6,7 +6,7 @@ use lib.ListN.{length, getD}
 use Rattle.prediction.specs.declared.Position.{Position}
 use Rattle.macroblock.specs.Macroblocks.{macroblockOf}
 use Rattle.progress.specs.Buffers.{Buffer}
-use Rattle.placement.specs.Touching.{referenceIn, TouchedBy}
+use Rattle.placement.specs.Touching.{referencesIn, TouchedBy}
 use Rattle.commands.specs.Commands.{commandsOf, macroblocksIn, batchFrame, batchPicture}
 
 -- Document 01: "The k-th macroblock, from 0, is at column k mod W, row k div W."
@@ -18,4 +18,4 @@ positionIn w k = record { column = k % w; row = k / w }
 pub record Touched (ws : List ℕ) (b : Buffer) (byte : ℕ) : Type 0 where
   pub k : ℕ
   pub comes : k < length (macroblocksIn (commandsOf ws))
-  pub touches : TouchedBy (batchFrame ws .surface) (positionIn (batchPicture ws .grid .columns) k) (referenceIn b (macroblockOf (getD (macroblocksIn (commandsOf ws)) k []) .case)) byte
+  pub touches : TouchedBy (batchFrame ws .surface) (positionIn (batchPicture ws .grid .columns) k) (referencesIn b (macroblockOf (getD (macroblocksIn (commandsOf ws)) k []) .case)) byte

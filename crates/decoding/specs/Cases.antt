@@ -1,6 +1,6 @@
--- Document 01's cases P1 to P13, and what is due to them from the check and from decoding.
+-- Document 01's cases P1 to P13 and a picture with field prediction, and what is due to them from the check and from decoding.
 -- To be believed: numbers, places, lengths, the record and P1's first bytes are the papers' own; the other first bytes are reckoned by
--- document 02's tiles (R-3).
+-- document 02's tiles (R-3), and the picture with field prediction by its R-6.
 use Prim.Native.Nat.{ℕ, _+_, _*_}
 use mathlib.Core.List.{List, [], _∷_, _++_}
 use lib.ListN.{take, set, replicate}
@@ -97,6 +97,40 @@ cases =
     -- row 23, column 23, at 512 + 23·16 + 7 = 887. Luma (7, 0) is the lowest.
     ∷ accepted (moved 1 0x0000000F) (fourLengths 896 896 888 0) (four 896 896 888 0 ++ four 0 0 7 0)
     ∷ refused (moved 1 0x00000010) (fourLengths 4000 4000 4000 4000) 9 32
+    ∷ []
+
+-- "PICTURE bit 10 may now be 0": the batch above with a field prediction (type 04h) in column 0, of word 4 and the two vectors' words, and a
+-- field dct type in column 1.
+unfoldable pub fieldMoved : ℕ → ℕ → ℕ → List ℕ
+fieldMoved w4 top bottom =
+    (0x70010004 ∷ 0 ∷ 0x003C01F0 ∷ 0x480003FB ∷ 0x10 ∷ 0 ∷ [])
+    ++ (0x7300000B ∷ 0xFF333000 ∷ 0x400 ∷ 1 ∷ zeros 9)
+    ++ (0x73430006 ∷ zeros 7)
+    ++ (0x73490007 ∷ 0x00004401 ∷ 0 ∷ 0 ∷ w4 ∷ top ∷ top ∷ bottom ∷ top ∷ [])
+    ++ (0x73490007 ∷ 0x0000BA00 ∷ 1 ∷ 0xFC0 ∷ 0x84000001 ∷ zeros 4)
+    ++ (0x05000000 ∷ [])
+
+-- Top field (2,0) from the bottom field: luma columns 1 to 16 of rows 1, 3 to 15, chroma columns 0 to 8 of rows 17, 19, 21, 23. Its lowest
+-- byte is luma (1, 1), at 16 + 1 = 17, its highest Cr (8, 7): row 23, column 17, at 512 + 23·16 + 1 = 881. Bottom field (32,0) from the top
+-- field: luma columns 16 to 31 of rows 0, 2 to 14, chroma columns 8 to 15 of rows 16, 18, 20, 22. Its lowest is luma (16, 0), at 512, its
+-- highest Cr (15, 6): row 22, column 31, at 512 + 22·16 + 15 = 879. "The log has no room for bit 15 and type 04h before R-7": the first
+-- record has kind 1 and the top field's vector, the second no dct type.
+unfoldable pub fieldPictures : List Case
+fieldPictures =
+    record {
+      batch = batchCase (fieldMoved 0x41010001 0x00000002 0x00000020) (fourLengths 896 896 882 0) 0 0 (four 896 896 882 0 ++ four 0 0 17 0);
+      lent = replicate 49 0xAA;
+      number = 0;
+      place = 0;
+      afterwards =
+          zeros 6 ++ (1 ∷ 0 ∷ 0 ∷ 0 ∷ 0 ∷ 1 ∷ 0x05 ∷ 0 ∷ 0 ∷ 0 ∷ 2 ∷ []) ++ zeros 7
+          ++ (1 ∷ []) ++ zeros 7 ++ (0x3F ∷ 0 ∷ 0 ∷ 1 ∷ 0x0A ∷ []) ++ zeros 11
+          ++ (0xAA ∷ []);
+    }
+    -- the forward reference one byte short: 13, and nothing is written
+    ∷ leaving (batchCase (fieldMoved 0x41010001 0x00000002 0x00000020) (fourLengths 896 896 881 0) 13 2 (four 896 896 882 0 ++ four 0 0 17 0))
+    -- "04h where not allowed": with bit 10 = 1, 4 at word 1 of the first macroblock
+    ∷ refused (set (fieldMoved 0x41010001 0x00000002 0x00000020) 7 0xFF333400) (fourLengths 896 896 896 896) 4 28
     ∷ []
 
 -- What the definitions answer and what is due: of the check, of decoding, and the log afterwards.

@@ -18,8 +18,8 @@ use Rattle.macroblock.specs.Rules.{keptBy, fieldRules, vectorRules, commandRule
 use Rattle.picture.specs.Surfaces.{surfaceOf, surfaceRules}
 use Rattle.picture.specs.Pictures.{pictureOf, pictureRules}
 use Rattle.progress.specs.Progress.{fresh}
-use Rattle.placement.specs.Blocks.{forwardOf, backwardOf, predicted, blocksOf}
-use Rattle.placement.specs.Placing.{placedRules, macroblockRules}
+use Rattle.placement.specs.Blocks.{forwardOf, backwardOf, bottomOf, predicted, blocksOf}
+use Rattle.placement.specs.Placing.{allowedIn, placedRules, macroblockRules}
 use Rattle.placement.specs.Progressing.{positionAfter, stageAfter, extentsAfter, progressAfter, macroblockNext}
 use Rattle.sequence.specs.Sequence.{surfaceNext, pictureNext, groupNext, endNext}
 use Rattle.sequence.specs.Judging.{rulesOf, nextOf, judge}
@@ -100,7 +100,7 @@ unfolding flatten cases p1 bPicture inputLine inputReport answerTo decimal
     report verdictOf measured bufferRules step after
     judge rulesOf nextOf surfaceNext pictureNext groupNext endNext
     macroblockRules placedRules macroblockNext progressAfter extentsAfter stageAfter positionAfter
-    blocksOf predicted forwardOf backwardOf fresh
+    blocksOf predicted forwardOf backwardOf bottomOf allowedIn fresh
     surfaceRules surfaceOf pictureRules pictureOf
     headerOf lookUp table commandRules fieldRules vectorRules keptBy macroblockOf caseOf motionOf vectorWords
     vectorOf vectorInRange blockAt blockExtent joined emptyExtent address

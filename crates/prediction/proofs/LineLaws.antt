@@ -18,7 +18,7 @@ use Rattle.prediction.specs.Addresses.{luma, cb, cr}
 use Rattle.prediction.specs.Structures.{rowsIn, rowOf}
 use Rattle.prediction.specs.Extents.{emptyExtent, joined}
 use Rattle.prediction.specs.Blocks.{blockInside, blockExtent, blockAt, startOf, lastOf}
-use Rattle.prediction.specs.Lines.{lineOf, inLine, vectorInLines, reachOf, floorOf}
+use Rattle.prediction.specs.Lines.{lineOf, lineIn, inLine, vectorInLines, reachOf, floorOf}
 use Rattle.prediction.specs.declared.Structure.{Structure}
 use Rattle.prediction.specs.declared.Structure.the-variants.{Frame, TopField, BottomField}
 use Rattle.prediction.specs.declared.Surface.{Surface}
@@ -83,15 +83,20 @@ component-exact size n c place v hs hn hv =
 pub lines-exact : (k : Structure) (g : Grid) (at : Position) (cx cy w : ℕ)
     → 0 < g .columns
     → 0 < g .rows
-    → vectorInLines k (lineOf 16 (g .columns) cx) (lineOf (rowsIn k luma) (g .rows) cy) (at .column) (at .row) w
+    → vectorInLines k (lineIn Frame (g .columns) cx) (lineIn k (g .rows) cy) (at .column) (at .row) w
     ≡ (vectorInRange k (vectorOf w) cx cy && blockInside k g at (vectorOf w))
-unfolding vectorInLines vectorInRange
+unfolding lineIn vectorInLines vectorInRange
 lines-exact k g at cx cy w hx hy =
     let v = vectorOf w in
     let f = vector-fits w in
     ap₂ _&&_ (component-exact 16 (g .columns) cx (at .column) (v .x) (omega arith) hx (f .0 .sfits))
     (component-exact (rowsIn k luma) (g .rows) cy (at .row) (v .y) (rows-pos k luma) hy (f .1 .sfits))
     ∙ swapped (inRange 16 cx (v .x)) (inside 16 (at .column) (g .columns) (v .x)) (inRange (rowsIn k luma) cy (v .y)) (inside (rowsIn k luma) (at .row) (g .rows) (v .y))
+
+-- Both fields have one line.
+pub field-lines : (n c : ℕ) → lineIn TopField n c ≡ lineIn BottomField n c
+unfolding lineIn
+field-lines n c = refl
 
 -- ---- reach
 -- The reach of a block that lies inside is what the block touches.
@@ -109,7 +114,7 @@ inside-reach k s g at w t =
 pub in-lines : (k : Structure) (s : Surface) (g : Grid) (at : Position) (cx cy w : ℕ)
     → 0 < g .columns
     → 0 < g .rows
-    → vectorInLines k (lineOf 16 (g .columns) cx) (lineOf (rowsIn k luma) (g .rows) cy) (at .column) (at .row) w ≡ true
+    → vectorInLines k (lineIn Frame (g .columns) cx) (lineIn k (g .rows) cy) (at .column) (at .row) w ≡ true
     → (vectorInRange k (vectorOf w) cx cy ≡ true) × (blockAt k s g at (vectorOf w) ≡ Inside (reachOf k s at w))
 in-lines k s g at cx cy w hx hy t =
     let two = both (vectorInRange k (vectorOf w) cx cy) (blockInside k g at (vectorOf w)) (sym (lines-exact k g at cx cy w hx hy) ∙ t) in

@@ -1,7 +1,7 @@
 -- What documents 01 and 02 work out by number, computed from the definitions.
 use mathlib.Core.Path.{_≡_, refl}
-use mathlib.Core.Bool.{true, false}
-use mathlib.Core.List.{[], _∷_, _++_, map}
+use mathlib.Core.Bool.{Bool, true, false}
+use mathlib.Core.List.{List, [], _∷_, _++_, map}
 use Prim.Native.Nat.{ℕ}
 use lib.IntN.{ℤ, pos, negℤ}
 use Rattle.prediction.specs.Vectors.{vectorOf, wordOf}
@@ -10,8 +10,9 @@ use Rattle.prediction.specs.Spans.{firstOf, countOf, halved}
 use Rattle.prediction.specs.Addresses.{address}
 use Rattle.prediction.specs.Extents.{emptyExtent, joined}
 use Rattle.prediction.specs.Blocks.{blockAt, blockExtent}
-use Rattle.prediction.specs.Lines.{lineOf, reachOf, floorOf}
-use Rattle.prediction.specs.declared.Structure.the-variants.{Frame}
+use Rattle.prediction.specs.Lines.{lineOf, vectorInLines, reachOf, floorOf}
+use Rattle.prediction.specs.declared.Structure.{Structure}
+use Rattle.prediction.specs.declared.Structure.the-variants.{Frame, TopField, BottomField}
 use Rattle.prediction.specs.declared.Vector.{Vector}
 use Rattle.prediction.specs.declared.Surface.{Surface}
 use Rattle.prediction.specs.declared.Line.{Line}
@@ -45,6 +46,30 @@ code9 = refl
 codes : vectorInRange Frame (vector (pos 31) (pos 15)) 2 1 ≡ true
 unfolding vectorInRange
 codes = refl
+
+-- of fields "Vertical components keep half the f code's range, −8·2^(c−1) to 8·2^(c−1)−1", and x the whole: both ends of codes 1 and 9
+abbrev inFields : ℕ → ℤ → ℤ → List Bool
+inFields c x y = map (λ (k : Structure). vectorInRange k (vector x y) c c) (TopField ∷ BottomField ∷ [])
+
+field-code1 : inFields 1 (pos 15) (pos 7)
+    ++ inFields 1 (minus 16) (minus 8)
+    ++ inFields 1 (pos 0) (pos 8)
+    ++ inFields 1 (pos 0) (minus 9)
+    ++ inFields 1 (pos 16) (pos 0)
+    ++ inFields 1 (minus 17) (pos 0)
+    ≡ true ∷ true ∷ true ∷ true ∷ false ∷ false ∷ false ∷ false ∷ false ∷ false ∷ false ∷ false ∷ []
+unfolding vectorInRange
+field-code1 = refl
+
+field-code9 : inFields 9 (pos 4095) (pos 2047)
+    ++ inFields 9 (minus 4096) (minus 2048)
+    ++ inFields 9 (pos 0) (pos 2048)
+    ++ inFields 9 (pos 0) (minus 2049)
+    ++ inFields 9 (pos 4096) (pos 0)
+    ++ inFields 9 (minus 4097) (pos 0)
+    ≡ true ∷ true ∷ true ∷ true ∷ false ∷ false ∷ false ∷ false ∷ false ∷ false ∷ false ∷ false ∷ []
+unfolding vectorInRange
+field-code9 = refl
 
 -- "Chroma halves each component towards zero (−3 gives −1, −1 gives 0, 3 gives 1)"
 halves : map halved (minus 3 ∷ minus 1 ∷ pos 3 ∷ []) ≡ minus 1 ∷ pos 0 ∷ pos 1 ∷ []
@@ -92,6 +117,18 @@ lines : map (lineOf 16 2) (0 ∷ 1 ∷ 9 ∷ 12 ∷ 255 ∷ []) ≡ line 32752 3
 unfolding lineOf
 lines = refl
 
+-- of fields: components from -8 to 7 for codes 0 and 1, -2048 to 2047 for 9, -16384 to 16383 for 12, any for 13 and above
+field-lines : map (lineOf 8 2) (0 ∷ 1 ∷ 9 ∷ 12 ∷ 13 ∷ 255 ∷ [])
+    ≡ line 32760 15 1 ∷ line 32760 15 1 ∷ line 30720 4095 1 ∷ line 16384 32767 1 ∷ line 0 65535 1 ∷ line 0 65535 1 ∷ []
+unfolding lineOf
+field-lines = refl
+
+-- rows of a field by code 1, two rows of macroblocks and the second of them: y from -8 to 0, where the block ends with the last field row, 15
+in-field-lines : map (vectorInLines TopField (lineOf 16 2 1) (lineOf 8 2 1) 0 1) (0xfff80000 ∷ 0x00000000 ∷ 0xfff70000 ∷ 0x00010000 ∷ [])
+    ≡ true ∷ true ∷ false ∷ false ∷ []
+unfolding vectorInLines lineOf vectorOf
+in-field-lines = refl
+
 -- a picture buffer whose chroma rows stand above its luma rows: the first byte is Cb's. Column 16 of row 16 is the second strip's, 512 +
 -- 256; Cb is 2·8, row 8, in the same strip: 512 + 128
 abbrev surface : ℕ → ℕ → Surface
@@ -100,6 +137,40 @@ surface pitch row = record { pitch = pitch; «chroma_row» = row }
 chroma-begins : blockAt Frame (surface 128 0) (record { columns = 2; rows = 2 }) (record { column = 1; row = 1 }) (vector (pos 0) (pos 0)) ≡ inside 640 1024
 unfolding blockAt blockExtent joined address
 chroma-begins = refl
+
+-- Blocks of fields. Document 02: "Each vector moves a 16-column, 8-row field block starting from field row 8Y, inside 8H field rows; chroma is 8
+-- by 4 from 4Y, halved as before. Reference row is twice the field row plus the chosen field." With pitch 128 one row of tiles, 32 rows,
+-- has 4096 bytes, a strip of 16 columns 512, and a row of a strip 16. By number:
+-- 1. The top field at (0, 0), C 32: luma from row 0; chroma field rows 0 to 3, rows 32 to 38: Cr ends at byte 15 of row 38,
+-- 4096 + 6·16 + 15.
+-- 2. The bottom field there: luma from row 1, byte 16; Cr ends at byte 15 of row 39, 4096 + 7·16 + 15.
+-- 3. The bottom field at (1, 1) by (−3, −3), C 5: luma columns 14 to 30, field rows 8 − 2 to 14, rows 13 to 29; chroma (−1, −1) columns 7 to 15, field
+-- rows 4 − 1 to 7, rows 5 + 7 to 5 + 15. Cb begins at byte 14 of row 12, 12·16 + 14, before luma's 13·16 + 14; luma ends at column 30 of row 29,
+-- 512 + 29·16 + 14, behind Cr's byte 31 of row 20.
+-- 4. The top field at (0, 0) by (1, 15), C 3: field rows 7 to 15, the last of 8·2, rows 14 to 30, columns 0 to 16; chroma (0, 7) field rows 3 to 7,
+-- rows 3 + 6 to 3 + 14. Cb begins at row 9, 9·16; luma ends at column 16 of row 30, 512 + 30·16.
+-- 5. The bottom field at (0, 0) by (0, 16), C 40: field rows 8 to 15, rows 17 to 31; chroma (0, 8) field rows 4 to 7, rows 40 + 9 to 40 + 15. Luma
+-- begins at 17·16; Cr ends at byte 15 of row 55, 4096 + 23·16 + 15.
+-- 6. The top field at (0, 0) by (0, 17): field rows 8 to 16, one too many.
+-- 7. The bottom field at (0, 1) by (0, −17): field rows 8 − 9 and on, one before the first.
+-- 8. The bottom field at (2, 3) by (−5, 7), pitch 256, C 81, W 3, H 5: columns 29 to 45, field rows 24 + 3 to 35, rows 55 to 71; chroma (−2, 3) columns 15
+-- to 22, field rows 12 + 1 to 17, rows 81 + 27 to 81 + 35. Luma begins at column 29 of row 55, 8192 + 512 + 23·16 + 13; Cr ends at byte 45 of row 116,
+-- 3·8192 + 2·512 + 20·16 + 13.
+abbrev fieldBlock : Structure → Surface → ℕ → ℕ → ℤ → ℤ → Block
+fieldBlock k s column row x y = blockAt k s (record { columns = 2; rows = 2 }) (record { column = column; row = row }) (vector x y)
+
+field-blocks : fieldBlock TopField (surface 128 32) 0 0 (pos 0) (pos 0)
+    ∷ fieldBlock BottomField (surface 128 32) 0 0 (pos 0) (pos 0)
+    ∷ fieldBlock BottomField (surface 128 5) 1 1 (minus 3) (minus 3)
+    ∷ fieldBlock TopField (surface 128 3) 0 0 (pos 1) (pos 15)
+    ∷ fieldBlock BottomField (surface 128 40) 0 0 (pos 0) (pos 16)
+    ∷ fieldBlock TopField (surface 128 32) 0 0 (pos 0) (pos 17)
+    ∷ fieldBlock BottomField (surface 128 32) 0 1 (pos 0) (minus 17)
+    ∷ blockAt BottomField (surface 256 81) (record { columns = 3; rows = 5 }) (record { column = 2; row = 3 }) (vector (minus 5) (pos 7))
+    ∷ []
+    ≡ inside 0 4208 ∷ inside 16 4224 ∷ inside 206 991 ∷ inside 144 993 ∷ inside 272 4480 ∷ Outside ∷ Outside ∷ inside 9085 25934 ∷ []
+unfolding blockAt blockExtent joined address
+field-blocks = refl
 
 -- no byte is not byte 0
 joins : joined emptyExtent (between 5 9) ∷ joined (between 5 9) emptyExtent ∷ joined (between 5 9) (between 2 7) ∷ joined (between 2 7) (between 5 9) ∷ []
@@ -116,6 +187,14 @@ reaches : map reach (0x00000000 ∷ 0x00000001 ∷ 0x00000002 ∷ 0x00000020 ∷
 unfolding reachOf blockExtent vectorOf joined emptyExtent address
 reaches = refl
 
+-- of fields: the first block of case 1 above from the second row of macroblocks, 16 half rows up, and nothing from one more; the bottom field's
+-- from the first row
+field-reaches : map (reachOf TopField (surface 128 32) (record { column = 0; row = 1 })) (0xfff00000 ∷ 0xffef0000 ∷ [])
+    ++ map (reachOf BottomField (surface 128 32) (record { column = 0; row = 0 })) (0x00000000 ∷ 0xffff0000 ∷ [])
+    ≡ between 0 4208 ∷ between 0 0 ∷ between 16 4224 ∷ between 0 0 ∷ []
+unfolding reachOf blockExtent vectorOf joined emptyExtent address
+field-reaches = refl
+
 -- f code 4 goes 128 half samples up and to the left: blocks of the first five rows of macroblocks can begin in row 0, those of the sixth in row 16
 -- and those of the seventh in row 32, the first of the next row of tiles, or in chroma's first row if that is above; and likewise by columns,
 -- where column 16 is in the next strip
@@ -125,3 +204,12 @@ floors : map (λ (row : ℕ). floorOf Frame (surface 128 112) 4 32640 row 32640)
     ≡ 0 ∷ 0 ∷ 256 ∷ 4096 ∷ 768 ∷ 1280 ∷ 320 ∷ 0 ∷ []
 unfolding floorOf address
 floors = refl
+
+-- of fields 64 half rows up: blocks of the first five rows of macroblocks can begin in field row 0, those of the sixth in 8 and those of the
+-- seventh in 16, so in rows 0, 16 and 32, or 1, 17 and 33 of the bottom field, or in chroma's first row
+field-floors : map (λ (row : ℕ). floorOf TopField (surface 128 112) 4 32640 row 32704) (0 ∷ 4 ∷ 5 ∷ 6 ∷ [])
+    ++ map (λ (row : ℕ). floorOf BottomField (surface 128 112) 4 32640 row 32704) (0 ∷ 4 ∷ 5 ∷ 6 ∷ [])
+    ++ (floorOf BottomField (surface 128 20) 4 32640 6 32704 ∷ floorOf BottomField (surface 15 112) 4 32640 6 32704 ∷ [])
+    ≡ 0 ∷ 0 ∷ 256 ∷ 4096 ∷ 16 ∷ 16 ∷ 272 ∷ 4112 ∷ 320 ∷ 0 ∷ []
+unfolding floorOf address
+field-floors = refl

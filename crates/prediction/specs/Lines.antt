@@ -27,6 +27,10 @@ limitOf size c = min 32768 (size * 2 ^ (c - 1))
 unfoldable pub lineOf : ℕ → ℕ → ℕ → Line
 lineOf size n c = record { low = 32768 - limitOf size c; span = 2 * limitOf size c - 1; last = n - 1 }
 
+-- The line of n rows of macroblocks in rows of a structure; that of columns is the frame's, as a frame's block has as many columns as rows.
+unfoldable pub lineIn : Structure → ℕ → ℕ → Line
+lineIn k n c = lineOf (rowsIn k luma) n c
+
 -- Component v at a place of the line: v keeps the code's range, and the block starts no half sample before the first
 -- block and none behind the last one's start. A sample has two half samples.
 abbrev pub inLine : ℕ → Line → ℕ → ℤ → Bool

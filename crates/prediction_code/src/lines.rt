@@ -19,7 +19,7 @@ ghost use lib.IntN.{subℕ};
 ghost use Rattle.prediction.specs.Vectors.{vectorOf};
 ghost use Rattle.prediction.specs.Addresses.{luma};
 ghost use Rattle.prediction.specs.Structures.{rowsIn};
-ghost use Rattle.prediction.specs.Lines.{lineOf, inLine, vectorInLines, reachOf, floorOf};
+ghost use Rattle.prediction.specs.Lines.{lineIn, inLine, vectorInLines, reachOf, floorOf};
 
 // The place of the last of n blocks.
 fn last_place(n: u16) -> u16
@@ -45,7 +45,7 @@ fn limit_of(size: u8, power: u8) -> u32
 
 // The line of n rows of macroblocks under an f code, in rows of a structure; of columns it is the frame's.
 pub fn line_of(structure: Structure, n: u16, code: u8) -> Line
-    ensures { λ r. ⌜ r ≡ lineOf (rowsIn structure luma) n code ⌝ }
+    ensures { λ r. ⌜ r ≡ lineIn structure n code ⌝ }
 {
     let last = last_place(n);
     let limit = limit_of(luma_rows(structure), exponent(code));

@@ -19,7 +19,7 @@ use Rattle.macroblock.specs.declared.Macroblock.{Macroblock}
 use Rattle.macroblock.proofs.CaseLaws.{kind-again, field-kind}
 use Rattle.macroblock.proofs.Congruence.{same-macroblock}
 use Rattle.records.specs.Layout.{kindPart}
-use Rattle.records.specs.Records.{recordableCase, recordable, recordedKind, recordedMotion}
+use Rattle.records.specs.Records.{recordableCase, recordable, recordedKind, recordedMotion, macroblockIn}
 
 -- Its kind is one of a record's four; it is intra where the case is, and never field predicted.
 pub recordable-most : (c : Case) → motionOf (recordableCase c) .kind ≤ 3
@@ -130,3 +130,7 @@ read-never-field bs =
 
 pub read-kept-case : (bs : List ℕ) → recordableCase (caseOf (recordedMotion bs)) ≡ caseOf (recordedMotion bs)
 read-kept-case bs = case-kept (caseOf (recordedMotion bs)) (read-never-field bs)
+
+pub recorded-kept : (bs : List ℕ) → recordable (macroblockIn bs) ≡ macroblockIn bs
+unfolding macroblockIn
+recorded-kept bs = kept-exactly (macroblockIn bs) .0 refl (read-never-field bs)

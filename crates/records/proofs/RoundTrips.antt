@@ -28,10 +28,10 @@ use Rattle.macroblock.specs.declared.Macroblock.{Macroblock}
 use Rattle.macroblock.proofs.CaseLaws.{vectors-four, field-kind, kind-again, type-back}
 use Rattle.macroblock.proofs.CommandLaws.{macroblock-back, words-kept, word-below, bits-lt, macroblock-legal, words-back}
 use Rattle.records.specs.Alone.{readFault, readAnswer, readRoom, recordFault, writeAnswer, writeRoom, LegalRecord}
-use Rattle.records.specs.Records.{recordable, usesNeither, recordOf, macroblockIn}
+use Rattle.records.specs.Records.{recordable, recordedCommand, usesNeither, recordOf, macroblockIn}
 use Rattle.records.specs.RecordRules.{recordRules}
 use Rattle.records.proofs.AloneTests.{whole, right-length}
-use Rattle.records.proofs.Recordable.{kept-exactly, recordable-legal}
+use Rattle.records.proofs.Recordable.{kept-exactly, recordable-legal, recorded-kept}
 use Rattle.records.proofs.RecordLaws.{record-back, record-kept, record-legal, bytes-again}
 
 -- what an accepted command keeps
@@ -99,7 +99,7 @@ record-of-read ws h e =
     let l = legal-read ws h e in
     right-length (recordOf (macroblockOf ws)) (record-length (macroblockOf ws)) ∙ record-kept (macroblockOf ws) l
 
-words-of-record : (ws : List ℕ) → Words ws → readFault ws ≡ Accepted → wordsOf (macroblockIn (recordOf (macroblockOf ws))) ≡ wordsOf (recordable (macroblockOf ws))
+words-of-record : (ws : List ℕ) → Words ws → readFault ws ≡ Accepted → wordsOf (macroblockIn (recordOf (macroblockOf ws))) ≡ recordedCommand ws
 words-of-record ws h e = ap wordsOf (record-back (macroblockOf ws) (legal-read ws h e))
 
 -- The dct type and the type of an accepted command, read from its word 1.
@@ -153,7 +153,7 @@ module _ (ws : List ℕ) (h : Words ws) (e : readFault ws ≡ Accepted) where
       false-both false false q = (refl, refl)
 
   -- So its nine words are those of what is recorded exactly there.
-  pub words-exactly : (usesNeither ws ≡ true → wordsOf (recordable (macroblockOf ws)) ≡ take 9 ws) × (wordsOf (recordable (macroblockOf ws)) ≡ take 9 ws → usesNeither ws ≡ true)
+  pub words-exactly : (usesNeither ws ≡ true → recordedCommand ws ≡ take 9 ws) × (recordedCommand ws ≡ take 9 ws → usesNeither ws ≡ true)
   words-exactly =
       let l = legal-read ws h e in
       let nine = nine-again ws h e in (
@@ -181,6 +181,12 @@ module _ (bs : List ℕ) (h : Bytes bs) (e : recordFault bs ≡ Accepted) where
   read-of-record =
       let n = written .nine in
       whole (wordsOf (macroblockIn bs)) (λ z. absurd (omega arith)) (written .header) (omega arith) ∙ written .kept
+
+  -- It uses neither bit 15 nor type 04h: the legal records are those of the commands that do not.
+  pub legal-uses-neither : usesNeither (wordsOf (macroblockIn bs)) ≡ true
+  legal-uses-neither =
+      let back = macroblock-back (macroblockIn bs) legal-written in
+      recordable-exactly (wordsOf (macroblockIn bs)) (written .words) read-of-record .1 (ap recordable back ∙ recorded-kept bs ∙ sym back)
 
   bytes-of-words : recordOf (macroblockOf (wordsOf (macroblockIn bs))) ≡ bs
   bytes-of-words = ap recordOf (macroblock-back (macroblockIn bs) legal-written) ∙ bytes-again bs (kept-length .0) h (kept-length .1)
@@ -210,14 +216,14 @@ pub recordable-again : (ws lent out : List ℕ)
     → Words ws
     → readAnswer ws lent ≡ Accepted
     → 9 ≤ length out
-    → (writeAnswer (take 24 (readRoom ws lent)) out ≡ Accepted) × (take 9 (writeRoom (take 24 (readRoom ws lent)) out) ≡ wordsOf (recordable (macroblockOf ws)))
+    → (writeAnswer (take 24 (readRoom ws lent)) out ≡ Accepted) × (take 9 (writeRoom (take 24 (readRoom ws lent)) out) ≡ recordedCommand ws)
 unfolding readAnswer readRoom writeAnswer writeRoom
 recordable-again ws lent out h e room =
     let fault = fits (readFault ws) 24 [] lent e .0 in
     let r = recordOf (macroblockOf ws) in
     let found : take 24 (readRoom ws lent) ≡ r = front (readFault ws) 24 r lent e (record-length (macroblockOf ws)) in
     let ok : writeAnswer r out ≡ Accepted = roomy (recordFault r) 9 [] out (record-of-read ws h fault) room in
-    let nine : take 9 (writeRoom r out) ≡ wordsOf (recordable (macroblockOf ws)) =
+    let nine : take 9 (writeRoom r out) ≡ recordedCommand ws =
     front (recordFault r) 9 (wordsOf (macroblockIn r)) out ok (words-length (macroblockIn r)) ∙ words-of-record ws h fault in
     (ap (λ (b : List ℕ). writeAnswer b out) found ∙ ok, ap (λ (b : List ℕ). take 9 (writeRoom b out)) found ∙ nine)
 

@@ -8,6 +8,7 @@ use Rattle.fields.specs.Word.{Field, bits, isSet, flag, field, packed, zeroBits
 use Rattle.fields.specs.Parts.{Entry, entry, laid, valueAt}
 use Rattle.headers.specs.Words.{wordAt}
 use Rattle.macroblock.specs.Cases.{motion, motionOf, caseOf}
+use Rattle.macroblock.specs.Macroblocks.{macroblockOf, wordsOf}
 use Rattle.macroblock.specs.declared.Case.{Case}
 use Rattle.macroblock.specs.declared.Case.the-variants.{Intra, Inter}
 use Rattle.macroblock.specs.declared.Flags.{Flags}
@@ -65,8 +66,12 @@ recordable m =
       flags = m .flags;
     }
 
+-- The command of what a record has room for of a command.
+abbrev pub recordedCommand : List ℕ → List ℕ
+recordedCommand ws = wordsOf (recordable (macroblockOf ws))
+
 -- Whether a command uses neither: bit 15 of word 1 is zero, and the type in 12:8 is not 04h. Its record then holds all that it says, by
--- `recordable-exactly` (proofs/RoundTrips.antt).
+-- `recordable-exactly` and `words-exactly` (proofs/RoundTrips.antt).
 abbrev pub usesNeither : List ℕ → Bool
 usesNeither ws = zeroBits (wordAt ws 1) 15 15 && not (eqb (bits (wordAt ws 1) 12 8) 4)
 

@@ -4,8 +4,10 @@ use macroblock::Flags;
 use macroblock::Macroblock;
 use macroblock::Motion;
 ghost use mathlib.Core.Path.{_≡_};
+ghost use mathlib.Core.Bool.{cond};
+ghost use lib.Dec.{eqb};
 ghost use Rattle.fields.specs.Word.{packed};
-ghost use Rattle.records.specs.Records.{flagFields, flagsOf, recordedMotion, recordOf, macroblockIn};
+ghost use Rattle.records.specs.Records.{flagFields, flagsOf, recordedKind, recordedMotion, recordOf, macroblockIn};
 
 // The flags as the byte that holds them, and back.
 fn flags_byte(flags: Flags) -> u8
@@ -34,16 +36,27 @@ fn flags_of(byte: u8) -> Flags
     }
 }
 
-// The record of a macroblock.
+// The kind that a record has for one of a macroblock: forward for field forward.
+fn recordable_kind(kind: u8) -> u8
+    ensures { λ r. ⌜ r ≡ cond (eqb kind 4) 1 kind ⌝ }
+{
+    if kind == 4 {
+        return 1;
+    }
+    kind
+}
+
+// The record of a macroblock, as far as it has room.
 pub(crate) fn record_of(macroblock: Macroblock) -> [u8; 24]
     ensures { λ r. ⌜ r ≡ recordOf macroblock ⌝ }
 {
     let case = macroblock.case;
     let motion = macroblock_code::motion_of(case);
+    let kind = recordable_kind(motion.kind);
     let skip = fields_code::flag_of(macroblock.skip) as u8;
     let flags = flags_byte(macroblock.flags);
     let mut record = [0; 24];
-    record[numbers::KIND] = motion.kind;
+    record[numbers::KIND] = kind;
     record[numbers::SKIP] = skip;
     record[numbers::PATTERN] = macroblock.pattern;
     record[numbers::MAX_SIZE] = macroblock.max_size;
@@ -58,17 +71,30 @@ pub(crate) fn record_of(macroblock: Macroblock) -> [u8; 24]
     record
 }
 
+// The kind that a number in a record says: intra for one that is none.
+fn recorded_kind(number: u8) -> u8
+    ensures { λ r. ⌜ r ≡ recordedKind number ⌝ }
+{
+    if number <= 3 {
+        return number;
+    }
+    0
+}
+
 // The kind and the vectors of a record.
 fn motion_in(bytes: &[u8]) -> Motion
     ensures { λ r. ⌜ r ≡ recordedMotion (now (bytes .entry)) ⌝ }
 {
-    let kind = numbers::number8_at(bytes, numbers::KIND);
+    let kind = recorded_kind(numbers::number8_at(bytes, numbers::KIND));
     let forward = numbers::number32_at(bytes, numbers::FORWARD);
     let backward = numbers::number32_at(bytes, numbers::BACKWARD);
     Motion {
         kind,
         forward,
         backward,
+        bottom: 0,
+        top_from_bottom: false,
+        bottom_from_bottom: false,
     }
 }
 
@@ -84,6 +110,7 @@ pub(crate) fn macroblock_in(bytes: &[u8]) -> Macroblock
         upper: numbers::number16_at(bytes, numbers::UPPER),
         case,
         skip: numbers::number8_at(bytes, numbers::SKIP) == 1,
+        dct_type: false,
         pattern: numbers::number8_at(bytes, numbers::PATTERN),
         max_size: numbers::number8_at(bytes, numbers::MAX_SIZE),
         target_size: numbers::number8_at(bytes, numbers::TARGET_SIZE),

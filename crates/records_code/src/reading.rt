@@ -1,6 +1,7 @@
 // A macroblock written as its record, and one command read to its record.
 use crate::layout;
 use answers::Answer;
+use macroblock::Allowed;
 use macroblock::Macroblock;
 ghost use mathlib.Core.Path.{_≡_};
 ghost use Rattle.records.specs.Layout.{recordLength};
@@ -33,7 +34,11 @@ fn command_fault(words: &[u32]) -> Answer
     if words.len() < 9 {
         return Answer::Refused(1, words.len() as u64);
     }
-    macroblock_code::fault_of(words)
+    let either = Allowed {
+        dct_type: true,
+        field: true,
+    };
+    macroblock_code::fault_of(either, words)
 }
 
 // Reads one MACROBLOCK command into the first 24 bytes of room.

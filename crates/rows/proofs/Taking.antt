@@ -15,8 +15,9 @@ use Rattle.prediction.specs.Ranges.{vectorInRange}
 use Rattle.prediction.specs.Vectors.{vectorOf, still}
 use Rattle.prediction.specs.declared.Block.the-variants.{Inside}
 use Rattle.prediction.specs.declared.Extent.{Extent}
+use Rattle.prediction.specs.declared.Line.{Line}
 use Rattle.prediction.specs.declared.Position.{Position}
-use Rattle.prediction.proofs.LineLaws.{in-lines, still-reach}
+use Rattle.prediction.proofs.LineLaws.{in-lines, field-lines, still-reach}
 use Rattle.prediction.proofs.ExtentLaws.{join-end, join-empty}
 use Rattle.prediction.specs.declared.Structure.{Structure}
 use Rattle.prediction.specs.declared.Structure.the-variants as structure
@@ -273,7 +274,9 @@ module _ (p q : Progress) (column due : ℕ) (f b : Extent) (before ws : List �
   field-line : (i : Bool) (w : ℕ) → FieldFits (fieldOf i) p column w
       → vectorInLines (fieldOf i) (acrossOf (p .picture .grid) (p .picture .forward)) (downOf (p .picture .grid) (p .picture .forward) (fieldOf i)) column (p .position .row) w ≡ true
   unfolding linesOf
-  field-line true w e = e
+  field-line true w e =
+      subst (λ (l : Line). vectorInLines structure.BottomField (acrossOf (p .picture .grid) (p .picture .forward)) l column (p .position .row) w ≡ true)
+      (field-lines (p .picture .grid .rows) (p .picture .forward .y)) e
   field-line false w e = e
 
   -- the vectors of a command by its type: in the frame of a reference, in fields, none

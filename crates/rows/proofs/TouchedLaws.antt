@@ -15,9 +15,9 @@ use Rattle.prediction.specs.declared.Line.{Line}
 use Rattle.prediction.specs.declared.Position.{Position}
 use Rattle.prediction.specs.declared.Surface.{Surface}
 use Rattle.prediction.proofs.ExtentLaws.{between, join-left, join-both, join-end, join-nothing, join-first}
-use Rattle.prediction.proofs.LineLaws.{above-floor, field-floor, first-fits}
+use Rattle.prediction.proofs.LineLaws.{above-floor, field-lines, field-floor, first-fits}
 use Rattle.prediction.specs.declared.Structure.{Structure}
-use Rattle.prediction.specs.declared.Structure.the-variants.{Frame, TopField}
+use Rattle.prediction.specs.declared.Structure.the-variants.{Frame, TopField, BottomField}
 use Rattle.prediction.specs.declared.Grid.{Grid}
 use Rattle.fields.specs.Word.{bits, isSet}
 use Rattle.headers.specs.Words.{wordAt}
@@ -26,7 +26,7 @@ use Rattle.picture.specs.declared.Codes.{Codes}
 use Rattle.placement.specs.Blocks.{fieldOf}
 use Rattle.rows.specs.Steps.{topIn, bottomIn}
 use Rattle.rows.specs.Words.{typeBits}
-use Rattle.rows.specs.Touching.{commandAt, usesVector, pointsIn, downOf, reached, lowered, AllFit, AllTouch, placeOf, touchedAfter, VectorsFit, lowestOf}
+use Rattle.rows.specs.Touching.{commandAt, usesVector, pointsIn, downOf, reached, lowered, AllFit, AllTouch, AllLow, placeAlong, touchedAfter, VectorsFit, lowestOf}
 
 module _ (e r : Extent) where
   -- the minimum of a join
@@ -56,11 +56,6 @@ lowest-touches e h = by (eq-zero-or-pos (e .end))
 
 pub lowest-first : (e : Extent) → 0 < e .end → lowestOf e ≡ e .first
 lowest-first e h = ap (λ (t : Bool). cond t 18446744073709551615 (e .first)) (ne-eqb (e .end) 0 (λ y. omega arith))
-
--- a byte is no higher than the floor of each vector's structure, from a column on
-abbrev pub AllLow : Surface → ℕ → Line → (Structure → Line) → Position → List (Structure × ℕ) → ℕ → Type 0
-AllLow s column x y at [] first = Unit {0}
-AllLow s column x y at (v ∷ vs) first = (first ≤ floorOf (v .0) s column (x .low) (at .row) (y (v .0) .low)) × AllLow s column x y at vs first
 
 -- ---- the vectors of one command
 module _ (s : Surface) (at : Position) where
@@ -107,21 +102,21 @@ module _ (points : List ℕ → List (Structure × ℕ)) (s : Surface) (at : Pos
   Points k = points (commandAt ws k)
 
   -- One command more.
-  pub after-next : (k : ℕ) (e : Extent) → After (k + 1) e ≡ reached s (placeOf points s at ws k) (points (commandAt ws k)) (After k e)
+  pub after-next : (k : ℕ) (e : Extent) → After (k + 1) e ≡ reached s (placeAlong points s at ws k) (points (commandAt ws k)) (After k e)
   after-next k e = let one : k + 1 ≡ suc k = omega arith in ap (λ (n : ℕ). After n e) one
 
-  pub fit-more : (x : Line) (y : Structure → Line) (k : ℕ) → VectorsFit points s at ws x y k → AllFit x y (placeOf points s at ws k) (points (commandAt ws k)) → VectorsFit points s at ws x y (k + 1)
+  pub fit-more : (x : Line) (y : Structure → Line) (k : ℕ) → VectorsFit points s at ws x y k → AllFit x y (placeAlong points s at ws k) (points (commandAt ws k)) → VectorsFit points s at ws x y (k + 1)
   fit-more x y k fit here i h = by (eq-or-lt-of-le {n = i} {m = k} (omega arith))
     where
-      by : (i ≡ k) ⊎ (i < k) → AllFit x y (placeOf points s at ws i) (points (commandAt ws i))
-      by (inl same) = subst (λ (n : ℕ). AllFit x y (placeOf points s at ws n) (points (commandAt ws n))) (sym same) here
+      by : (i ≡ k) ⊎ (i < k) → AllFit x y (placeAlong points s at ws i) (points (commandAt ws i))
+      by (inl same) = subst (λ (n : ℕ). AllFit x y (placeAlong points s at ws n) (points (commandAt ws n))) (sym same) here
       by (inr l) = fit i l
 
   -- Where nothing is touched in the end, nothing has changed.
   nothing-changed : (k : ℕ) (e : Extent) → After k e .end ≡ 0 → After k e ≡ e
   nothing-changed zero e z = refl
   nothing-changed (suc k) e z =
-      let same = reached-nothing s (placeOf points s at ws k) (Points k) (After k e) z in
+      let same = reached-nothing s (placeAlong points s at ws k) (Points k) (After k e) z in
       same ∙ nothing-changed k e (sym (ap (λ (x : Extent). x .end) same) ∙ z)
 
   pub after-nothing : (k : ℕ) (e : Extent) (end : ℕ) → end ≡ After k e .end → end ≡ 0 → between (e .first) end ≡ After k e
@@ -133,20 +128,20 @@ module _ (points : List ℕ → List (Structure × ℕ)) (s : Surface) (at : Pos
       → lowered s (record { column = column; row = at .row }) vs first ≡ lowestOf (After (k + 1) e)
   look-on x y n fit e k h hp hc hr column first vs ec ef ev =
       ap₂ (λ (c : ℕ) (us : List (Structure × ℕ)). lowered s (record { column = c; row = at .row }) us first) ec ev
-      ∙ ap (lowered s (placeOf points s at ws k) (Points k)) ef
-      ∙ lowered-is s (placeOf points s at ws k) (Points k) hp hc hr (fit-touch s (placeOf points s at ws k) x y (Points k) (fit k h)) (After k e)
+      ∙ ap (lowered s (placeAlong points s at ws k) (Points k)) ef
+      ∙ lowered-is s (placeAlong points s at ws k) (Points k) hp hc hr (fit-touch s (placeAlong points s at ws k) x y (Points k) (fit k h)) (After k e)
       ∙ ap lowestOf (sym (after-next k e))
 
   -- A first byte that is no higher than the floors of the row from the k-th command on stays.
   module _ (x : Line) (y : Structure → Line) (n : ℕ) (e : Extent) (fit : VectorsFit points s at ws x y n) (k : ℕ)
       (some : 0 < touchedAfter points s at ws k e .end)
-      (low : (j : ℕ) → AllLow s (at .column + k) x y (placeOf points s at ws j) (points (commandAt ws j)) (touchedAfter points s at ws k e .first)) where
+      (low : (j : ℕ) → AllLow s (at .column + k) x y (placeAlong points s at ws j) (points (commandAt ws j)) (touchedAfter points s at ws k e .first)) where
     abbrev Stays : ℕ → Type 0
     Stays j = (0 < After j e .end) × (After j e .first ≡ After k e .first)
 
     stays-next : (j : ℕ) → k ≤ j → j < n → Stays j → Stays (j + 1)
     stays-next j later h before =
-        let place = placeOf points s at ws j in
+        let place = placeAlong points s at ws j in
         let is = after-next j e in (
           omega (arith, ap (λ (z : Extent). z .end) is, reached-end s place (Points j) (After j e), before .0),
           ap (λ (z : Extent). z .first) is ∙ reached-first s place (at .column + k) x y (omega arith) (After k e .first) (Points j) (low j) (fit j h) (After j e) (before .0) (before .1),
@@ -179,7 +174,8 @@ all-low alone word a s column x g codes at c first frame fields = by (usesVector
     low = downOf g codes TopField .low
 
     chosen : (i : Bool) → first ≤ floorOf TopField s column (x .low) (at .row) low → first ≤ floorOf (fieldOf i) s column (x .low) (at .row) (downOf g codes (fieldOf i) .low)
-    chosen true h = le-trans h (field-floor s column (x .low) (at .row) low)
+    chosen true h =
+        subst (λ (l : Line). first ≤ floorOf BottomField s column (x .low) (at .row) (l .low)) (field-lines (g .rows) (codes .y)) (le-trans h (field-floor s column (x .low) (at .row) low))
     chosen false h = h
 
     by : (u f t : Bool) → (f ≡ true → first ≤ floorOf TopField s column (x .low) (at .row) low)

@@ -7,7 +7,7 @@ use mathlib.Core.Logic.{_⊎_}
 use mathlib.Core.Path.{_≡_}
 use lib.Dec.{eqb}
 use Rattle.fields.specs.Word.{bits, isSet, withBits}
-use Rattle.prediction.specs.Lines.{lineOf, vectorInLines, reachOf}
+use Rattle.prediction.specs.Lines.{lineIn, vectorInLines, reachOf}
 use Rattle.prediction.specs.declared.Extent.{Extent}
 use Rattle.prediction.specs.declared.Position.{Position}
 use Rattle.prediction.specs.declared.Structure.{Structure}
@@ -27,11 +27,11 @@ use Rattle.rows.specs.declared.Step.the-variants.{Kept, Left}
 unfoldable pub linesOf : Picture → Lines
 linesOf p =
     record {
-      «forward_x» = lineOf 16 (p .grid .columns) (p .forward .x);
-      «forward_y» = lineOf 16 (p .grid .rows) (p .forward .y);
-      «field_y» = lineOf 8 (p .grid .rows) (p .forward .y);
-      «backward_x» = lineOf 16 (p .grid .columns) (p .backward .x);
-      «backward_y» = lineOf 16 (p .grid .rows) (p .backward .y);
+      «forward_x» = lineIn structure.Frame (p .grid .columns) (p .forward .x);
+      «forward_y» = lineIn structure.Frame (p .grid .rows) (p .forward .y);
+      «field_y» = lineIn structure.TopField (p .grid .rows) (p .forward .y);
+      «backward_x» = lineIn structure.Frame (p .grid .columns) (p .backward .x);
+      «backward_y» = lineIn structure.Frame (p .grid .rows) (p .backward .y);
       allowed = allowedIn p;
     }
 

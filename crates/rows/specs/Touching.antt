@@ -1,7 +1,7 @@
 -- What commands of a row touch of one reference, from their words alone: it is what the progress after them says, but asks for no
 -- progress between them.
 -- Proved: against the progress after each command, by `go-on` (proofs/Going.antt).
-use Prim.Native.Nat.{ℕ, zero, suc, _+_, _*_, _<_, min}
+use Prim.Native.Nat.{ℕ, zero, suc, _+_, _*_, _≤_, _<_, min}
 use mathlib.Core.Bool.{Bool, true, false, cond, _&&_, _||_}
 use mathlib.Core.List.{List, [], _∷_}
 use mathlib.Core.Path.{_≡_}
@@ -10,10 +10,8 @@ use lib.ListN.{take, drop}
 use Rattle.fields.specs.Word.{bits, withBits}
 use Rattle.headers.specs.Words.{wordAt}
 use Rattle.macroblock.specs.declared.Allowed.{Allowed}
-use Rattle.prediction.specs.Addresses.{luma}
 use Rattle.prediction.specs.Extents.{joined}
-use Rattle.prediction.specs.Lines.{lineOf, vectorInLines, reachOf}
-use Rattle.prediction.specs.Structures.{rowsIn}
+use Rattle.prediction.specs.Lines.{lineIn, vectorInLines, reachOf, floorOf}
 use Rattle.prediction.specs.declared.Extent.{Extent}
 use Rattle.prediction.specs.declared.Grid.{Grid}
 use Rattle.prediction.specs.declared.Line.{Line}
@@ -65,26 +63,31 @@ abbrev pub AllTouch : Surface → Position → List (Structure × ℕ) → Type 
 AllTouch s at [] = Unit {0}
 AllTouch s at (v ∷ vs) = (0 < reachOf (v .0) s at (v .1) .end) × AllTouch s at vs
 
+-- A byte is no higher than the floor of each vector's structure, from a column on.
+abbrev pub AllLow : Surface → ℕ → Line → (Structure → Line) → Position → List (Structure × ℕ) → ℕ → Type 0
+AllLow s column x y at [] first = Unit {0}
+AllLow s column x y at (v ∷ vs) first = (first ≤ floorOf (v .0) s column (x .low) (at .row) (y (v .0) .low)) × AllLow s column x y at vs first
+
 -- The lines of a picture's columns, and of its rows by their structure, under the f codes of one reference.
 abbrev pub acrossOf : Grid → Codes → Line
-acrossOf g c = lineOf 16 (g .columns) (c .x)
+acrossOf g c = lineIn structure.Frame (g .columns) (c .x)
 
 abbrev pub downOf : Grid → Codes → Structure → Line
-downOf g c k = lineOf (rowsIn k luma) (g .rows) (c .y)
+downOf g c k = lineIn k (g .rows) (c .y)
 
 -- The commands of a row that begins at a position, by their vectors in one reference.
 module _ (points : List ℕ → List (Structure × ℕ)) (s : Surface) (at : Position) (ws : List ℕ) where
-  abbrev pub placeOf : ℕ → Position
-  placeOf k = record { column = at .column + k; row = at .row }
+  abbrev pub placeAlong : ℕ → Position
+  placeAlong k = record { column = at .column + k; row = at .row }
 
   -- What is touched of it after the first k commands.
   abbrev pub touchedAfter : ℕ → Extent → Extent
   touchedAfter zero e = e
-  touchedAfter (suc k) e = reached s (placeOf k) (points (commandAt ws k)) (touchedAfter k e)
+  touchedAfter (suc k) e = reached s (placeAlong k) (points (commandAt ws k)) (touchedAfter k e)
 
   -- Each vector of the first n keeps the lines of its reference.
   abbrev pub VectorsFit : Line → (Structure → Line) → ℕ → Type 0
-  VectorsFit x y n = (k : ℕ) → k < n → AllFit x y (placeOf k) (points (commandAt ws k))
+  VectorsFit x y n = (k : ℕ) → k < n → AllFit x y (placeAlong k) (points (commandAt ws k))
 
 -- The first byte, for a minimum: where nothing is touched, the highest number of 64 bits.
 abbrev pub lowestOf : Extent → ℕ

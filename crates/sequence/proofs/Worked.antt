@@ -19,9 +19,9 @@ use Rattle.picture.specs.Surfaces.{surfaceOf, surfaceRules}
 use Rattle.picture.specs.Pictures.{pictureOf, pictureRules}
 use Rattle.progress.specs.Progress.{fresh}
 use Rattle.progress.specs.declared.Progress.{Progress}
-use Rattle.placement.specs.Blocks.{forwardOf, backwardOf, predicted, blocksOf}
+use Rattle.placement.specs.Blocks.{forwardOf, backwardOf, bottomOf, predicted, blocksOf}
 use Rattle.placement.specs.Examples.{Judged, Change}
-use Rattle.placement.specs.Placing.{placedRules, macroblockRules}
+use Rattle.placement.specs.Placing.{allowedIn, placedRules, macroblockRules}
 use Rattle.placement.specs.Progressing.{positionAfter, stageAfter, extentsAfter, progressAfter, macroblockNext}
 use Rattle.sequence.specs.Sequence.{surfaceNext, pictureNext, groupNext, endNext}
 use Rattle.sequence.specs.Judging.{rulesOf, nextOf}
@@ -65,13 +65,13 @@ every-unknown = (refl, refl)
 
 -- A MACROBLOCK is judged by its picture's rules (`macroblock-table` of JudgingLaws.antt), whose examples are `placement`'s.
 every-macroblock : Worked (Known Macroblock 9) macroblocks
-unfolding rulesOf macroblocks macroblockRules placedRules blocksOf predicted forwardOf backwardOf fresh
+unfolding rulesOf macroblocks macroblockRules placedRules blocksOf predicted forwardOf backwardOf bottomOf allowedIn fresh
     commandRules fieldRules vectorRules keptBy macroblockOf caseOf motionOf vectorWords
     vectorOf wordOf vectorInRange blockAt blockExtent joined emptyExtent address
 every-macroblock = refl
 
 every-change : map (λ (c : Header × Change). nextOf (c .0) (c .1 .before) (c .1 .words)) sequenceChanges ≡ map (λ (c : Header × Change). c .1 .after) sequenceChanges
 unfolding sequenceChanges nextOf surfaceNext pictureNext groupNext endNext surfaceOf pictureOf fresh
-    macroblockNext progressAfter extentsAfter stageAfter positionAfter blocksOf predicted forwardOf backwardOf
+    macroblockNext progressAfter extentsAfter stageAfter positionAfter blocksOf predicted forwardOf backwardOf bottomOf
     macroblockOf caseOf motionOf vectorOf wordOf vectorInRange blockAt blockExtent joined emptyExtent address
 every-change = refl

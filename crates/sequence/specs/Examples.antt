@@ -1,5 +1,5 @@
 -- Worked examples of commands in the sequence of a batch, by their headers.
--- To be believed: numbers and places are document 01's own, and of PICTURE's bit 10 document 02's (R-6).
+-- To be believed: numbers and places are document 01's own, and of PICTURE's bit 10 and of type 04h document 02's (R-6).
 use Prim.Native.Nat.{ℕ}
 use mathlib.Core.Bool.{Bool, true, false}
 use mathlib.Core.List.{List, [], _∷_}
@@ -13,7 +13,7 @@ use Rattle.progress.specs.Progress.{fresh}
 use Rattle.progress.specs.declared.Extents.{Extents}
 use Rattle.progress.specs.declared.Progress.{Progress}
 use Rattle.progress.specs.declared.Stage.{Stage}
-use Rattle.placement.specs.Examples.{pictureB, groupBegins, sliceOpen, sliceClosed, groupClosed, was, wasNone, window, noWindow, touched, progressAt, untouchedAt, macroblockWords, alike, intraWith, Judged, Change, change}
+use Rattle.placement.specs.Examples.{pictureWith, pictureB, groupBegins, sliceOpen, sliceClosed, groupClosed, was, wasNone, window, noWindow, touched, progressAt, untouchedAt, macroblockWords, alike, intraWith, Judged, Change, change}
 
 -- How far a batch has come, in the picture of `placement`'s examples: which commands have come, where no group and no slice is open.
 abbrev idleStage : Bool → Bool → Bool → Bool → Stage
@@ -45,20 +45,15 @@ surfaceCome = unpictured (idleStage true false false false)
 abbrev pictureCome : Progress
 pictureCome = unbegun (idleStage true true false false)
 
--- PICTURE has come with bit 10 zero.
+-- A P picture with bit 10 zero has come, and a SLICEGROUP behind it.
+abbrev adaptive : Stage → Progress
+adaptive s = untouchedAt (pictureWith false 2 (codes 1 2) (codes 15 15)) s 0 0
+
 abbrev adaptivePictureCome : Progress
-adaptivePictureCome =
-    untouchedAt
-    (record {
-      coding = 3;
-      forward = codes 1 2;
-      backward = codes 3 4;
-      grid = record { columns = 6; rows = 10 };
-      «frame_pred_frame_dct» = false;
-    })
-    (idleStage true true false false)
-    0
-    0
+adaptivePictureCome = adaptive (idleStage true true false false)
+
+abbrev adaptiveGroupCome : Progress
+adaptiveGroupCome = adaptive groupBegins
 
 -- Behind PICTURE: at a column and a row, after a forward macroblock.
 abbrev touchedBefore : Extents
@@ -100,15 +95,20 @@ surfaceWords = 0x70010004 ∷ 0 ∷ 0x02540590 ∷ 0x480007FB ∷ 0xA0 ∷ 0 ∷
 abbrev pictureWords : List ℕ
 pictureWords = 0x7300000B ∷ 0x43213400 ∷ 0x600 ∷ 0x00090005 ∷ replicate 9 0
 
--- .. with bit 10 zero.
+-- .. P, with bit 10 zero.
 abbrev adaptivePictureWords : List ℕ
-adaptivePictureWords = 0x7300000B ∷ 0x43213000 ∷ 0x600 ∷ 0x00090005 ∷ replicate 9 0
+adaptivePictureWords = 0x7300000B ∷ 0xFF213000 ∷ 0x400 ∷ 0x00090005 ∷ replicate 9 0
 
 abbrev groupWords : List ℕ
 groupWords = 0x73430006 ∷ replicate 7 0
 
 abbrev carriedWords : List ℕ
 carriedWords = 0x70000003 ∷ replicate 4 0xFFFFFFFF
+
+-- The first macroblock of its group, of type 04h: the top field's vector (3, 5) and the bottom field's (2, 0), both in the reference's bottom
+-- field.
+abbrev fieldWords : List ℕ
+fieldWords = macroblockWords 0x4401 0 0 0x41050001 (0x00050003 ∷ 0x00050003 ∷ 2 ∷ 0x00050003 ∷ [])
 
 -- "NOOP may stand anywhere."
 unfoldable pub noops : List Judged
@@ -158,6 +158,7 @@ groups =
     ∷ breaking 3 0 (surfaceCome, groupWords)
     ∷ breaking 3 0 (unbegun (idleStage true false false false), groupWords)
     ∷ keeping (pictureCome, groupWords)
+    ∷ keeping (adaptivePictureCome, groupWords)
     ∷ breaking 3 0 (groupCome, groupWords)
     ∷ breaking 3 0 (midway, groupWords)
     ∷ breaking 3 0 (betweenSlices, groupWords)
@@ -168,7 +169,9 @@ groups =
     ∷ []
 
 -- "MACROBLOCK only in an open group and before W×H of them have come": in one; without the flags of one that has just begun (7); before
--- SURFACE, before the first SLICEGROUP and behind a closed group; one too many. The other rules are `placement`'s.
+-- SURFACE, before the first SLICEGROUP and behind a closed group; one too many. Document 02 (R-6): "type 04h is allowed in P" behind a PICTURE
+-- with bit 10 zero, and in sequence only; in B "Wrong bits .. 14 or 1:0, and word 4 bits 16 or 18 set" (4), and it is no type (5). The other
+-- rules are `placement`'s.
 unfoldable pub macroblocks : List Judged
 macroblocks =
     keeping (midway, intraWith 1)
@@ -177,6 +180,9 @@ macroblocks =
     ∷ breaking 3 0 (pictureCome, macroblockWords 0x3A00 0 0xFC0 0x40000001 (alike 0))
     ∷ breaking 3 0 (comeTo groupClosed 3 5, intraWith 0x40000001)
     ∷ breaking 3 0 (allInGroup, macroblockWords 0x3A00 0x000A0000 0xFC0 0x40000001 (alike 0))
+    ∷ keeping (adaptiveGroupCome, fieldWords)
+    ∷ record { given = (adaptivePictureCome, fieldWords); breaks = (3, 0) ∷ (7, 4) ∷ [] }
+    ∷ record { given = (groupCome, fieldWords); breaks = (4, 1) ∷ (5, 1) ∷ (4, 4) ∷ [] }
     ∷ []
 
 -- "carried commands only before the first SLICEGROUP", before SURFACE too
@@ -208,8 +214,15 @@ ends =
 unfoldable pub unknowns : List Judged
 unknowns = breaking 2 0 (noneCome, 1 ∷ []) ∷ breaking 2 0 (midway, 0x73490006 ∷ []) ∷ breaking 2 0 (allCome, 0x05000001 ∷ []) ∷ []
 
+-- The first macroblock has come, of type 04h. The bottom field's luma begins at column 1 and field row 0, row 1, byte 16 + 1; the top field's
+-- chroma (1, 2) ends at column 8 and field row 4, row 160 + 9, Cr at byte 17 of it, 5·8192 + 512 + 9·16 + 1 = 41617.
+abbrev fieldsCome : Progress
+fieldsCome =
+    progressAt (adaptiveGroupCome .picture) sliceOpen 1 0 (was 4 0x00050003 0x00050003 2 0x00050003)
+    (touched (window 0 41088) (window 0 41088) (window 17 41618) noWindow)
+
 -- NOOP and carried commands change nothing; SURFACE, PICTURE and END what they say; SLICEGROUP opens a group, also a later one; a
--- macroblock moves on, here by an intra one at the end of a slice and of its group.
+-- macroblock moves on, here by an intra one at the end of a slice and of its group, and by one of type 04h.
 unfoldable pub sequenceChanges : List (Header × Change)
 sequenceChanges =
     (Known Noop 1, change noneCome (0 ∷ []) noneCome)
@@ -220,7 +233,9 @@ sequenceChanges =
     ∷ (Known Picture 13, change surfaceCome pictureWords pictureCome)
     ∷ (Known Picture 13, change surfaceCome adaptivePictureWords adaptivePictureCome)
     ∷ (Known SliceGroup 8, change pictureCome groupWords groupCome)
+    ∷ (Known SliceGroup 8, change adaptivePictureCome groupWords adaptiveGroupCome)
     ∷ (Known SliceGroup 8, change groupOver groupWords (comeTo groupBegins 0 5))
     ∷ (Known Macroblock 9, change midway (intraWith 0x84000001) (progressAt pictureB groupClosed 4 5 wasNone touchedBefore))
+    ∷ (Known Macroblock 9, change adaptiveGroupCome fieldWords fieldsCome)
     ∷ (Known End 1, change allCome (0x05000000 ∷ []) endCome)
     ∷ []

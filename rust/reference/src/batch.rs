@@ -1,7 +1,8 @@
 //! Batches put together from a description of their picture.
 
 use crate::command::*;
-use crate::command_cases::plain;
+use crate::command_cases::{by_fields, plain};
+use crate::leaf::word_of;
 
 pub const SURFACE: u32 = 0x7001_0004;
 pub const PICTURE: u32 = 0x7300_000b;
@@ -21,10 +22,12 @@ pub struct Frame {
     pub chroma_row: u32,
     /// Forward x, forward y, backward x, backward y.
     pub codes: [u32; 4],
+    /// PICTURE bit 10 is 0.
+    pub fields: bool,
 }
 
 impl Frame {
-    /// Whole macroblocks, the least buffers, and f code 3.
+    /// Whole macroblocks, the least buffers, f code 3, and PICTURE bit 10 set.
     pub fn new(sort: u32, columns: u32, rows: u32) -> Frame {
         Frame {
             sort,
@@ -35,7 +38,13 @@ impl Frame {
             pitch: (16 * columns).next_multiple_of(128),
             chroma_row: 16 * rows,
             codes: [[15; 4], [3, 3, 15, 15], [3; 4]][sort as usize - 1],
+            fields: false,
         }
+    }
+
+    /// The same with PICTURE bit 10 = 0.
+    pub fn with_fields(sort: u32, columns: u32, rows: u32) -> Frame {
+        Frame { fields: true, ..Frame::new(sort, columns, rows) }
     }
 
     pub fn surface(&self) -> Vec<u32> {
@@ -46,7 +55,8 @@ impl Frame {
     pub fn picture(&self) -> Vec<u32> {
         let [forward_x, forward_y, backward_x, backward_y] = self.codes;
         let codes = forward_x << 16 | forward_y << 20 | backward_x << 24 | backward_y << 28;
-        let mut words = vec![PICTURE, codes | 3 << 12 | 1 << 10, self.sort << 9, (self.rows - 1) << 16 | (self.columns - 1)];
+        let one = codes | 3 << 12 | u32::from(!self.fields) << 10;
+        let mut words = vec![PICTURE, one, self.sort << 9, (self.rows - 1) << 16 | (self.columns - 1)];
         words.resize(13, 0);
         words
     }
@@ -142,6 +152,21 @@ pub fn moved(kind: u32, forward: u32, backward: u32) -> Command {
     c
 }
 
+/// Coded and predicted by fields: the top field's vector and the bottom's, each with the reference's field that is chosen for it.
+pub fn moved_fields(top: (u32, u32), bottom: (u32, u32)) -> Command {
+    let mut c = by_fields(top.0, bottom.0);
+    for (f, value) in [(PATTERN, 0b100110), (TOP_CHOICE, top.1), (BOTTOM_CHOICE, bottom.1)] {
+        f.set(&mut c, value);
+    }
+    c
+}
+
+/// The macroblock with its dct type set.
+pub fn field_dct(mut c: Command) -> Command {
+    DCT_TYPE.set(&mut c, 1);
+    c
+}
+
 pub fn skip(kind: u32, forward: u32, backward: u32) -> Command {
     let mut c = plain(kind, forward, backward);
     SKIP.set(&mut c, 1);
@@ -161,4 +186,15 @@ pub fn small_p() -> Batch {
 /// Three by one: both, skipped like it, backward.
 pub fn small_b() -> Batch {
     rows(&Frame::new(3, 3, 1), &[moved(3, 4, 7), skip(3, 4, 7), moved(2, 0, 0xfffd)])
+}
+
+/// Three by two with PICTURE bit 10 = 0, P: by fields, skipped, intra; forward, and by fields twice; every second coded one with
+/// its dct type set.
+pub fn small_f() -> Batch {
+    let fields = |top: (i64, i64, u32), bottom: (i64, i64, u32)| {
+        moved_fields((word_of(top.0, top.1), top.2), (word_of(bottom.0, bottom.1), bottom.2))
+    };
+    let upper = [field_dct(fields((5, 2, 1), (3, 7, 0))), skip(1, 0, 0), moved(0, 0, 0)];
+    let lower = [field_dct(moved(1, 9, 0)), fields((-3, -5, 0), (1, 0, 0)), field_dct(fields((-6, -16, 1), (-7, -1, 1)))];
+    rows(&Frame::with_fields(2, 3, 2), &[upper, lower].concat())
 }

@@ -1,6 +1,6 @@
 //! Batches damaged in one place: a bit flipped, words cut off, words added.
 
-use crate::batch::{moved, rows, small_b, still, Batch, Frame, END, SURFACE};
+use crate::batch::{moved, rows, small_b, small_f, still, Batch, Frame, END, SURFACE};
 use crate::batch_cases::{needed, Cases};
 use crate::batch_document::p1;
 use crate::check::check;
@@ -100,6 +100,9 @@ pub fn damage(cases: &mut Cases) {
     bits_of_words(cases, &p, 3, &[0, 1, 2, 3, 4, 5, 6, 7, 8]);
     bits_of_words(cases, &small_b(), 4, &[0, 1, 2, 3, 4, 5, 6, 7, 8]);
     bits_of_words(cases, &small_b(), 3, &[5, 6]);
+    // by fields, and skipped, with PICTURE bit 10 = 0
+    bits_of_words(cases, &small_f(), 3, &[1, 4, 7]);
+    bits_of_words(cases, &small_f(), 4, &[1]);
     cuts(cases);
     tails(cases);
 }

@@ -1,6 +1,6 @@
 //! Two faults in one batch, and random damage.
 
-use crate::batch::{small_b, small_i, small_p, Batch, END};
+use crate::batch::{small_b, small_f, small_i, small_p, Batch, END};
 use crate::batch_cases::{needed, Cases};
 use crate::batch_valid::{once_in, pick, random_batch, random_frame};
 use crate::check::check;
@@ -86,7 +86,7 @@ fn with_faults(base: &Batch, mut faults: [Fault; 2]) -> (Vec<u32>, [u64; 4]) {
 
 fn pairs(cases: &mut Cases) {
     let mut r = Random::new(21);
-    for (base, count) in [(small_i(), 30), (small_p(), 60), (small_b(), 70)] {
+    for (base, count) in [(small_i(), 30), (small_p(), 60), (small_b(), 70), (small_f(), 60)] {
         let flips = flips(&base);
         for _ in 0..count {
             let mut fault = || random_fault(&mut r, &base, &flips);

@@ -1,5 +1,5 @@
 //! The table of rules: each broken once or more, by a named change of a batch that keeps them all, with the number and the
-//! place that document 01 gives to it.
+//! place that document 01 gives to it, or document 02's R-6.
 
 use crate::batch::Batch;
 use crate::batch_cases::Cases;
@@ -66,6 +66,13 @@ pub fn table() -> Vec<Named> {
     crate::rules_vectors::copies(&mut table);
     crate::rules_vectors::limits(&mut table);
     crate::rules_vectors::buffers(&mut table);
+    crate::rules_field::pictures(&mut table);
+    crate::rules_field::dct_types(&mut table);
+    crate::rules_field::types(&mut table);
+    crate::rules_field::skips(&mut table);
+    crate::rules_field::choices(&mut table);
+    crate::rules_field::copies(&mut table);
+    crate::rules_field::limits(&mut table);
     table.0
 }
 

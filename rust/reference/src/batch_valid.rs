@@ -2,7 +2,7 @@
 
 use crate::batch::{lay_out, skip, Batch, End, Frame};
 use crate::command::*;
-use crate::command_cases::plain;
+use crate::command_cases::{by_fields, plain};
 use crate::leaf::word_of;
 use crate::random::Random;
 
@@ -36,7 +36,7 @@ fn random_chroma_row(r: &mut Random, rows: u32) -> u32 {
     row.clamp(least, 32767) as u32
 }
 
-/// Any sizes and f codes that a picture of this type and so many macroblocks can have.
+/// Any sizes and f codes that a picture of this type and so many macroblocks can have, and PICTURE bit 10 of both values.
 pub fn random_frame(r: &mut Random, sort: u32, columns: u32, rows: u32) -> Frame {
     let chroma_row = random_chroma_row(r, rows);
     let mut near = |low: u32, high: u32| near_ends(r, low.into(), high.into()) as u32;
@@ -47,6 +47,7 @@ pub fn random_frame(r: &mut Random, sort: u32, columns: u32, rows: u32) -> Frame
         chroma_row,
         ..Frame::new(sort, columns, rows)
     };
+    frame.fields = once_in(r, if sort == 2 { 2 } else { 3 });
     frame.codes = frame.codes.map(|code| if code == 15 { 15 } else { r.within(1, 9) as u32 });
     frame
 }
@@ -63,16 +64,27 @@ pub fn inside(place: u32, n: u32) -> (i64, i64) {
 }
 
 /// The values that a component of a vector may have.
-fn span(code: u32, place: u32, n: u32) -> (i64, i64) {
-    let (least, most) = range(code);
-    let (low, high) = inside(place, n);
+fn span((least, most): (i64, i64), (low, high): (i64, i64)) -> (i64, i64) {
     (low.max(least), high.min(most))
 }
 
 /// The spans of x and y for the k-th macroblock's forward (0) or backward (1) vector.
 fn spans(frame: &Frame, k: u32, direction: usize) -> [(i64, i64); 2] {
     let codes = &frame.codes[2 * direction..];
-    [span(codes[0], k % frame.columns, frame.columns), span(codes[1], k / frame.columns, frame.rows)]
+    let (column, row) = (inside(k % frame.columns, frame.columns), inside(k / frame.columns, frame.rows));
+    [span(range(codes[0]), column), span(range(codes[1]), row)]
+}
+
+/// Half of what is allowed of a frame's y. "Vertical components keep half the f code's range, −8·2^(c−1) to 8·2^(c−1)−1";
+/// "inside 8H field rows".
+pub fn halved((low, high): (i64, i64)) -> (i64, i64) {
+    (low / 2, high.div_euclid(2))
+}
+
+/// The same for a vector of one of its fields.
+fn field_spans(frame: &Frame, k: u32) -> [(i64, i64); 2] {
+    let [x, _] = spans(frame, k, 0);
+    [x, span(halved(range(frame.codes[1])), halved(inside(k / frame.columns, frame.rows)))]
 }
 
 /// A component from low to high: near an end, anything, near a multiple of 32, with which a block ends where a strip of its
@@ -87,6 +99,22 @@ fn random_component(r: &mut Random, low: i64, high: i64) -> i64 {
 pub fn random_vector(r: &mut Random, frame: &Frame, k: u32, direction: usize) -> u32 {
     let [x, y] = spans(frame, k, direction).map(|(low, high)| random_component(r, low, high));
     word_of(x, y)
+}
+
+pub fn random_field_vector(r: &mut Random, frame: &Frame, k: u32) -> u32 {
+    let [x, y] = field_spans(frame, k).map(|(low, high)| random_component(r, low, high));
+    word_of(x, y)
+}
+
+/// A macroblock predicted by fields, from any two fields.
+pub fn random_field(r: &mut Random, frame: &Frame, k: u32) -> Command {
+    let top = random_field_vector(r, frame, k);
+    let bottom = if once_in(r, 5) { top } else { random_field_vector(r, frame, k) };
+    let mut c = by_fields(top, bottom);
+    for f in [TOP_CHOICE, BOTTOM_CHOICE] {
+        f.set(&mut c, r.next() as u32);
+    }
+    c
 }
 
 pub fn fits(frame: &Frame, k: u32, direction: usize, vector: u32) -> bool {
@@ -117,14 +145,22 @@ fn random_end(r: &mut Random, frame: &Frame, k: u32) -> End {
 
 /// Intra, or any kind that the picture allows.
 fn random_coded(r: &mut Random, frame: &Frame, k: u32, intra: bool) -> Command {
-    let kinds = if intra { &[0][..] } else { [&[0][..], &[0, 1, 1, 1], &[0, 1, 2, 3, 3]][frame.sort as usize - 1] };
+    let kinds = match frame.sort {
+        2 if !intra && frame.fields => &[0, 1, 4, 4][..],
+        2 if !intra => &[0, 1, 1, 1],
+        3 if !intra => &[0, 1, 2, 3, 3],
+        _ => &[0],
+    };
     let kind = pick(r, kinds);
     let has = |direction: u32| kind & direction != 0;
     let forward = if has(1) { random_vector(r, frame, k, 0) } else { 0 };
     let backward = if has(2) { random_vector(r, frame, k, 1) } else { 0 };
-    let mut c = plain(kind, forward, backward);
+    let mut c = if kind == 4 { random_field(r, frame, k) } else { plain(kind, forward, backward) };
     if kind != 0 {
         PATTERN.set(&mut c, r.next() as u32);
+    }
+    if frame.fields {
+        DCT_TYPE.set(&mut c, r.next() as u32);
     }
     c
 }
@@ -205,6 +241,7 @@ mod tests {
     fn accepted() {
         let mut r = Random::new(23);
         let mut seen = [[0; 5]; 3];
+        let (mut kinds, mut dct_types) = ([0; 5], [0; 3]);
         for n in 0..900 {
             let (sort, columns, rows) = (n % 3 + 1, r.within(1, 6) as u32, r.within(1, 4) as u32);
             let frame = random_frame(&mut r, sort, columns, rows);
@@ -216,10 +253,13 @@ mod tests {
                 let odd = kind(c) != Some(0) && c[5] % 2 == 1;
                 let marks = [SKIP.of(c) == 1, mid_row && LAST_IN_SLICE.of(c) == 1, mid_row && LAST_IN_GROUP.of(c) == 1, odd];
                 (0..4).for_each(|mark| seen[sort as usize - 1][mark] += u32::from(marks[mark]));
+                kinds[usize::from(kind(c).unwrap())] += 1;
+                dct_types[sort as usize - 1] += DCT_TYPE.of(c);
             }
             seen[sort as usize - 1][4] += u32::from(*batch.0.last().unwrap() == [0]);
         }
         assert_eq!((seen[0][0], seen[0][3]), (0, 0));
         (1..3).for_each(|sort| assert!(seen[sort].iter().all(|count| *count > 10), "{seen:?}"));
+        assert!(kinds.iter().all(|count| *count > 200) && dct_types.iter().all(|count| *count > 200), "{kinds:?} {dct_types:?}");
     }
 }

@@ -160,7 +160,7 @@ mod tests {
         let cases = cases();
         let different: HashSet<[u8; 52]> = cases.iter().map(Case::bytes).collect();
         assert_eq!(different.len(), cases.len());
-        assert!((4000..=5000).contains(&cases.len()), "{}", cases.len());
+        assert!((4000..=5680).contains(&cases.len()), "{}", cases.len());
         for c in &cases {
             let (counts, rooms, unit) = [(0..=0, 0..=0, 0), (0..=12, 0..=32, 4), (0..=40, 0..=12, 1)][c.sort as usize].clone();
             assert!(counts.contains(&c.count) && rooms.contains(&c.room));

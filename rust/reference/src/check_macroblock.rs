@@ -2,7 +2,7 @@
 
 use crate::check_picture::{Picture, B, I, P};
 use crate::command::*;
-use crate::leaf::{Block, Window};
+use crate::leaf::{Block, Structure, Window};
 
 /// The k-th macroblock's place in its picture.
 pub struct Place<'a> {
@@ -21,7 +21,7 @@ impl Place<'_> {
         ((self.k % columns) as u32, (self.k / columns) as u32)
     }
 
-    fn block(&self, word: u32, codes: (u32, u32)) -> Block {
+    fn block(&self, word: u32, codes: (u32, u32), structure: Structure) -> Block {
         let (p, (column, row)) = (self.picture, self.position());
         Block {
             pitch: p.pitch,
@@ -33,23 +33,40 @@ impl Place<'_> {
             x_code: codes.0 as u8,
             y_code: codes.1 as u8,
             word,
+            structure,
             case: 0,
         }
     }
 
     /// The macroblock's own samples.
     pub fn own(&self) -> Block {
-        self.block(0, (1, 1))
+        self.block(0, (1, 1), Structure::Frame)
     }
 
-    /// The predicted blocks, each with its buffer and word: "2 (forward) and 3 (backward)"; "5 forward vector, 6 backward".
+    /// "PICTURE bit 10 may now be 0; then word 1 bit 15 (dct type) is free on macroblocks that are not skipped, and type 04h is
+    /// allowed in P".
+    fn allowed(&self) -> Allowed {
+        let fields = self.picture.fields;
+        Allowed { dct_type: fields, field: fields && self.picture.sort == P }
+    }
+
+    /// The block of a field's vector: a choice of 1 is the reference's bottom field.
+    fn field_block(&self, word: u32, choice: u32) -> Block {
+        self.block(word, self.picture.forward, if choice == 1 { Structure::Bottom } else { Structure::Top })
+    }
+
+    /// The predicted blocks, each with its buffer and word: "2 (forward) and 3 (backward)"; "5 forward vector, 6 backward"; "word
+    /// 5 is the top field's vector, word 7 the bottom's", both forward.
     pub fn predicted(&self, c: &Command) -> Vec<(usize, usize, Block)> {
-        let forward = (2, 5, self.block(c[5], self.picture.forward));
-        let backward = (3, 6, self.block(c[6], self.picture.backward));
+        let forward = (2, 5, self.block(c[5], self.picture.forward, Structure::Frame));
+        let backward = (3, 6, self.block(c[6], self.picture.backward, Structure::Frame));
         match kind(c) {
             Some(1) => vec![forward],
             Some(2) => vec![backward],
             Some(3) => vec![forward, backward],
+            Some(4) => {
+                vec![(2, 5, self.field_block(c[5], TOP_CHOICE.of(c))), (2, 7, self.field_block(c[7], BOTTOM_CHOICE.of(c)))]
+            }
             _ => vec![],
         }
     }
@@ -65,10 +82,10 @@ fn may_skip(c: &Command, at: &Place) -> bool {
 }
 
 fn word_1_and_2(c: &Command, at: &Place) -> Vec<Rule> {
-    // "I allows intra only, P intra and 1, B all."
+    // "I allows intra only, P intra and 1, B all"; "type 04h is allowed in P"
     let allowed: &[u8] = match at.picture.sort {
         I => &[0],
-        P => &[0, 1],
+        P => &[0, 1, 4],
         _ => &[0, 1, 2, 3],
     };
     vec![
@@ -94,9 +111,9 @@ fn word_4(c: &Command, at: &Place) -> Vec<Rule> {
     ]
 }
 
-/// The rules of a command read alone, and those that look at the picture and at what came before.
+/// The rules of a command by itself, and those that look at the picture and at what came before.
 pub fn macroblock_rules(c: &Command, at: &Place) -> Vec<Rule> {
-    let mut all = rules(c).to_vec();
+    let mut all = rules(c, at.allowed()).to_vec();
     all.extend(word_1_and_2(c, at));
     all.extend(word_4(c, at));
     for (_, word, block) in at.predicted(c) {

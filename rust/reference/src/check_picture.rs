@@ -53,6 +53,8 @@ pub struct Picture {
     pub rows: u32,
     /// I, P or B.
     pub sort: u32,
+    /// Whether bit 10 of word 1 is 0, which field prediction and the dct type need.
+    pub fields: bool,
     /// f codes, x and y of each.
     pub forward: (u32, u32),
     pub backward: (u32, u32),
@@ -67,6 +69,7 @@ pub fn picture(s: &Surface, words: &[u32]) -> Picture {
         columns: bits(words[3], 7, 0) + 1,
         rows: bits(words[3], 23, 16) + 1,
         sort: bits(words[2], 10, 9),
+        fields: bits(words[1], 10, 10) == 0,
         forward: (bits(codes, 19, 16), bits(codes, 23, 20)),
         backward: (bits(codes, 27, 24), bits(codes, 31, 28)),
     }
@@ -90,8 +93,8 @@ pub fn picture_rules(s: &Surface, words: &[u32]) -> Vec<Rule> {
     let p = picture(s, words);
     let spans = |samples: u32, n: u32| 16 * (n - 1) < samples && samples <= 16 * n;
     vec![
-        // "13:12 = 3, 10 = 1, 9 = 0, 5:0 zero, others free"
-        (1, 4, bits(one, 13, 12) == 3 && bits(one, 10, 10) == 1 && bits(one, 9, 9) == 0 && bits(one, 5, 0) == 0),
+        // "13:12 = 3, 10 = 1, 9 = 0, 5:0 zero, others free", where "PICTURE bit 10 may now be 0"
+        (1, 4, bits(one, 13, 12) == 3 && bits(one, 9, 9) == 0 && bits(one, 5, 0) == 0),
         (2, 5, codes_fit(&p)),
         // "H at most 175, 16(W−1) < width ≤ 16W, 16(H−1) < height ≤ 16H, pitch ≥ 16W, C ≥ 16H"
         (3, 5, p.rows <= 175),

@@ -1,7 +1,7 @@
 //! Cases for decoding in which the macroblocks' fields tell one record from another: fields at their ends, fields that all
 //! differ, and single bits.
 
-use crate::batch::{moved, rows, skip, Batch, Frame};
+use crate::batch::{moved, moved_fields, rows, skip, Batch, Frame};
 use crate::batch_cases::needed;
 use crate::command::*;
 use crate::decode_cases::Cases;
@@ -43,11 +43,12 @@ fn far(sort: u32, columns: u32, rows: u32) -> Frame {
     Frame { codes: base.codes.map(|code| code.max(9)), ..base }
 }
 
-/// A macroblock of a kind, or one that is skipped.
+/// A macroblock of a kind, one that is skipped, or one predicted by fields.
 #[derive(Clone, Copy)]
 enum Sort {
     Kind(u32),
     Skipped,
+    Fields,
 }
 
 /// Vectors in at least three columns and two rows that no other macroblock has, in either component; they fit the next
@@ -59,6 +60,14 @@ fn vectors(frame: &Frame, k: u32) -> (u32, u32) {
     (word_of(k - 32 * column, 32 * below - k), word_of(32 * right - k, k - 32 * row))
 }
 
+/// The same for the two fields, which have half the rows. The record has the top field's.
+fn field_vectors(frame: &Frame, k: u32) -> (u32, u32) {
+    let (column, row) = (i64::from(k % frame.columns), i64::from(k / frame.columns));
+    let (right, below) = (i64::from(frame.columns) - 2 - column, i64::from(frame.rows) - 1 - row);
+    let k = i64::from(k);
+    (word_of(k - 32 * column, 16 * below - k), word_of(32 * right - k, k - 16 * row))
+}
+
 /// Up to 30 macroblocks. Carried half, sizes and quantiser differ from one to any other, pattern and vectors where they may.
 fn apart(frame: &Frame, sorts: &[Sort]) -> Batch {
     let mut all: Vec<Command> = Vec::new();
@@ -66,6 +75,10 @@ fn apart(frame: &Frame, sorts: &[Sort]) -> Batch {
         let (forward, backward) = vectors(frame, k);
         let mut c = match (sorts[k as usize % sorts.len()], all.last()) {
             (Sort::Kind(kind), _) => moved(kind, forward, backward),
+            (Sort::Fields, _) => {
+                let (top, bottom) = field_vectors(frame, k);
+                moved_fields((top, k % 2), (bottom, k / 2 % 2))
+            }
             (Sort::Skipped, Some(before)) if frame.sort == 3 => skip(kind(before).unwrap().into(), before[5], before[6]),
             _ => skip(1, 0, 0),
         };
@@ -73,6 +86,9 @@ fn apart(frame: &Frame, sorts: &[Sort]) -> Batch {
             f.set(&mut c, value);
         }
         CLAMP.set(&mut c, k / 2);
+        if frame.fields && SKIP.of(&c) == 0 {
+            DCT_TYPE.set(&mut c, k / 2);
+        }
         NO_CONVERSION.set(&mut c, if frame.sort == 1 { 0 } else { k / 3 });
         if PATTERN.of(&c) != 0 && kind(&c) != Some(0) {
             PATTERN.set(&mut c, 60 + frame.sort - 2 * k);
@@ -85,7 +101,7 @@ fn apart(frame: &Frame, sorts: &[Sort]) -> Batch {
 /// Batches of macroblocks that differ in every field, the larger shape first. The sorts go round with the columns, so that
 /// no skipped one is first or last in its row.
 fn all_apart() -> Vec<Batch> {
-    use Sort::{Kind, Skipped};
+    use Sort::{Fields, Kind, Skipped};
     let mut batches = Vec::new();
     for (columns, rows) in [(6, 5), (3, 3)] {
         let frame = |sort: u32| far(sort, columns, rows);
@@ -99,6 +115,8 @@ fn all_apart() -> Vec<Batch> {
             [Kind(1), Kind(0), Kind(2)],
         ];
         batches.extend(of_b.map(|sorts| apart(&frame(3), &sorts)));
+        let with_fields = Frame { fields: true, ..frame(2) };
+        batches.extend([[Fields, Skipped, Kind(0)], [Kind(1), Fields, Fields]].map(|sorts| apart(&with_fields, &sorts)));
     }
     batches
 }
@@ -130,8 +148,21 @@ fn single_bits(sort: u32, kind: u32, all_but: bool) -> Batch {
     rows(&far(sort, 16, 2), &(0..32).map(one).collect::<Vec<_>>())
 }
 
+/// A line of 40: the first macroblock's vector points to its end and the last one's to its beginning. The others are intra.
+fn far_vectors(sort: u32, columns: u32, lines: u32) -> Batch {
+    let (right, below) = (32 * (i64::from(columns) - 1), 32 * (i64::from(lines) - 1));
+    let mut all = [moved(0, 0, 0); 40];
+    all[0] = moved(sort - 1, word_of(right, below), word_of(right, below));
+    all[39] = moved(sort - 1, word_of(-right, -below), word_of(-right, -below));
+    rows(&far(sort, columns, lines), &all)
+}
+
 pub fn fields(cases: &mut Cases) {
     ends(cases);
+    for (sort, columns, lines) in [(2, 40, 1), (2, 1, 40), (3, 40, 1), (3, 1, 40)] {
+        let words = far_vectors(sort, columns, lines).words();
+        assert_eq!(cases.push(&words, needed(&words), 960).number, 0);
+    }
     for batch in all_apart() {
         let words = batch.words();
         cases.four_rooms(&words, needed(&words), 25);

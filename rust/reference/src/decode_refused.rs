@@ -1,7 +1,7 @@
 //! Cases for decoding of batches that are refused: buffers too short and batches damaged, the room mostly long enough, so
 //! that whoever writes before the whole batch is judged is seen.
 
-use crate::batch::{small_b, small_i, small_p, Batch, Frame, END, SURFACE};
+use crate::batch::{small_b, small_f, small_i, small_p, Batch, Frame, END, SURFACE};
 use crate::batch_cases::{made_by, needed};
 use crate::batch_document::p1;
 use crate::batch_rules::table;
@@ -13,10 +13,10 @@ use crate::decode_cases::Cases;
 use crate::random::Random;
 use std::collections::BTreeMap;
 
-/// Each type, several groups and slices, skipped ones.
+/// Each type, several groups and slices, skipped ones, field prediction.
 fn bases() -> Vec<Batch> {
     let mut r = Random::new(32);
-    let mut batches = vec![small_i(), small_p(), small_b()];
+    let mut batches = vec![small_i(), small_p(), small_b(), small_f()];
     batches.extend([1, 2, 3].map(|sort| random_batch(&mut r, &Frame::new(sort, 2, 2), 2, 0)));
     batches
 }

@@ -1,6 +1,6 @@
 //! Cases for decoding: document 01's own, and batches that keep every rule, each with rooms of several lengths.
 
-use crate::batch::{small_b, small_i, small_p};
+use crate::batch::{small_b, small_f, small_i, small_p};
 use crate::batch_cases::{made_by, needed};
 use crate::batch_document::p1;
 use crate::batch_valid::{random_batch, random_frame};
@@ -51,6 +51,18 @@ fn firsts(cases: &mut Cases) {
     }
 }
 
+/// The batches with PICTURE bit 10 = 0, up to 41 macroblocks: room exactly enough, a byte too small, longer, or none go round.
+fn by_fields(cases: &mut Cases) {
+    let accepted = made_by(&[crate::field_cases::fields]).into_iter().filter(|case| case.report.number == 0);
+    for (n, case) in accepted.enumerate() {
+        let due = log_bytes(&case.words).unwrap();
+        let (room, number) = [(due, 0), (due - 1, 14), (due + 7, 0), (due, 0), (0, 14)][n % 5];
+        if due < 1000 {
+            assert_eq!(cases.push(&case.words, case.buffers, room).number, number);
+        }
+    }
+}
+
 /// Each type in shapes of up to 40 macroblocks, with NOOPs, carried commands, and zero words after END; far vectors in the
 /// last two shapes.
 fn shapes(cases: &mut Cases) {
@@ -71,7 +83,7 @@ fn shapes(cases: &mut Cases) {
 
 /// A NOOP before every command and some after END; the six carried commands before SURFACE and after PICTURE.
 fn between(cases: &mut Cases) {
-    for batch in [small_i(), small_p(), small_b()] {
+    for batch in [small_i(), small_p(), small_b(), small_f()] {
         let spaced: Vec<u32> = batch.0.iter().flat_map(|command| [&[0][..], command].concat()).collect();
         let carried: Vec<u32> = COMMANDS[6..].iter().flat_map(|&(header, _, count)| vec![header; count]).collect();
         let (state, groups) = (batch.0[..2].concat(), batch.0[2..].concat());
@@ -132,6 +144,7 @@ pub fn valid(cases: &mut Cases) {
     checked(cases);
     tiles(cases);
     firsts(cases);
+    by_fields(cases);
     shapes(cases);
     between(cases);
     looks_like_macroblocks(cases);

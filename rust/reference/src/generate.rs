@@ -3,6 +3,7 @@
 pub mod batches;
 pub mod boats;
 pub mod breach;
+mod break_field;
 mod break_macroblock;
 mod break_sequence;
 mod break_skip;

@@ -57,6 +57,34 @@ pub enum Plane {
     Cr,
 }
 
+/// The rows that a block is made of: all of a frame's, or those of one of its fields.
+#[derive(Clone, Copy, Debug, PartialEq, Eq)]
+pub enum Structure {
+    Frame,
+    Top,
+    Bottom,
+}
+
+impl Structure {
+    /// Of so many rows, how many are its own: a field has every second.
+    fn rows_of(self, rows: i64) -> i64 {
+        if self == Structure::Frame {
+            rows
+        } else {
+            rows / 2
+        }
+    }
+
+    /// "Reference row is twice the field row plus the chosen field."
+    fn row(self, row: i64) -> i64 {
+        match self {
+            Structure::Frame => row,
+            Structure::Top => 2 * row,
+            Structure::Bottom => 2 * row + 1,
+        }
+    }
+}
+
 /// The columns or the rows that a component names in a plane whose macroblocks have so many of them.
 fn samples(size: i64, place: u16, v: i64) -> Range<i64> {
     let first = size * place as i64 + v.div_euclid(2);
@@ -65,6 +93,7 @@ fn samples(size: i64, place: u16, v: i64) -> Range<i64> {
 }
 
 /// The samples that one vector's word names for the macroblock at a place of a picture.
+#[derive(Clone, Copy)]
 pub struct Block {
     pub pitch: u32,
     pub chroma_row: u16,
@@ -75,6 +104,7 @@ pub struct Block {
     pub x_code: u8,
     pub y_code: u8,
     pub word: u32,
+    pub structure: Structure,
     /// The number of document 01's case, or 0.
     pub case: u8,
 }
@@ -86,36 +116,39 @@ impl Block {
         (signed(self.word % 0x1_0000), signed(self.word / 0x1_0000))
     }
 
-    /// "With f code c a component lies from −16·2^(c−1) to 16·2^(c−1)−1."
+    /// "With f code c a component lies from −16·2^(c−1) to 16·2^(c−1)−1." In a field "vertical components keep half the f code's
+    /// range, −8·2^(c−1) to 8·2^(c−1)−1".
     pub fn in_range(&self) -> bool {
-        let holds = |code: u8, v: i64| {
-            let limit = (1..code).fold(16i64, |l, _| l * 2);
+        let holds = |least: i64, code: u8, v: i64| {
+            let limit = (1..code).fold(least, |l, _| l * 2);
             (-limit..=limit - 1).contains(&v)
         };
         let (x, y) = self.vector();
-        holds(self.x_code, x) && holds(self.y_code, y)
+        holds(16, self.x_code, x) && holds(self.structure.rows_of(16), self.y_code, y)
     }
 
-    /// Whether the luma block lies "in columns 0 to 16W−1, rows 0 to 16H−1".
+    /// Whether the luma block lies "in columns 0 to 16W−1, rows 0 to 16H−1"; "each vector moves a 16-column, 8-row field block
+    /// starting from field row 8Y, inside 8H field rows".
     pub fn inside(&self) -> bool {
         let (vx, vy) = self.vector();
-        let holds = |n: u16, mut samples: Range<i64>| samples.all(|at| (0..16 * n as i64).contains(&at));
-        holds(self.columns, samples(16, self.column, vx)) && holds(self.rows, samples(16, self.row, vy))
+        let holds = |size: i64, n: u16, place: u16, v: i64| samples(size, place, v).all(|at| (0..size * n as i64).contains(&at));
+        holds(16, self.columns, self.column, vx) && holds(self.structure.rows_of(16), self.rows, self.row, vy)
     }
 
-    /// Hands over every sample of a block that is inside: its plane, and the column and the row of its byte.
+    /// Hands over every sample of a block that is inside: its plane, and the column and the row of its byte. "Chroma is 8 by 4
+    /// from 4Y, halved as before."
     pub fn each_sample(&self, mut take: impl FnMut(Plane, u64, u64)) {
         let (vx, vy) = self.vector();
-        for y in samples(16, self.row, vy) {
+        for y in samples(self.structure.rows_of(16), self.row, vy) {
             for x in samples(16, self.column, vx) {
-                take(Plane::Luma, x as u64, y as u64);
+                take(Plane::Luma, x as u64, self.structure.row(y) as u64);
             }
         }
         // Rust's division rounds towards zero.
-        for y in samples(8, self.row, vy / 2) {
+        for y in samples(self.structure.rows_of(8), self.row, vy / 2) {
             for x in samples(8, self.column, vx / 2) {
                 // "chroma rows are C+y and columns are 2x and 2x+1"
-                let row = u64::from(self.chroma_row) + y as u64;
+                let row = u64::from(self.chroma_row) + self.structure.row(y) as u64;
                 take(Plane::Cb, 2 * x as u64, row);
                 take(Plane::Cr, 2 * x as u64 + 1, row);
             }

@@ -1,7 +1,8 @@
 //! Cases for the two leaf crates: fields of a word, and blocks in a picture buffer.
 
+use crate::field_blocks::field_blocks;
 use crate::first_blocks::first_blocks;
-use crate::leaf::{bits, with_bits, word_of, Block, Window};
+use crate::leaf::{bits, with_bits, word_of, Block, Structure, Window};
 use crate::random::Random;
 use crate::tile_blocks::tile_blocks;
 use std::fmt::Write as _;
@@ -20,6 +21,11 @@ impl Block {
     fn bytes(&self) -> [u8; 24] {
         let mut b = [0; 24];
         b[0] = 1;
+        b[1] = match self.structure {
+            Structure::Frame => 0,
+            Structure::Top => 1,
+            Structure::Bottom => 2,
+        };
         b[2..4].copy_from_slice(&self.chroma_row.to_le_bytes());
         b[4..8].copy_from_slice(&self.pitch.to_le_bytes());
         b[8..10].copy_from_slice(&self.columns.to_le_bytes());
@@ -34,7 +40,7 @@ impl Block {
     }
 }
 
-/// Pitch, C, W and H; X and Y; the f codes; the vector.
+/// Pitch, C, W and H; X and Y; the f codes; the vector. A block of the frame.
 pub fn block(size: (u32, u16, u16, u16), at: (u16, u16), codes: (u8, u8), v: (i64, i64)) -> Block {
     let (pitch, chroma_row, columns, rows) = size;
     Block {
@@ -47,6 +53,7 @@ pub fn block(size: (u32, u16, u16, u16), at: (u16, u16), codes: (u8, u8), v: (i6
         x_code: codes.0,
         y_code: codes.1,
         word: word_of(v.0, v.1),
+        structure: Structure::Frame,
         case: 0,
     }
 }
@@ -127,6 +134,7 @@ fn blocks() -> Vec<Block> {
     }
     all.extend(tile_blocks());
     all.extend(first_blocks());
+    all.extend(field_blocks());
     all
 }
 

@@ -1,7 +1,7 @@
-//! A second reading of document 01, with the bytes of document 02's and the mount sheets of its R-9, kept apart
-//! from the proved crates: it shares no code and no table with them. It gives the answers that the documents ask for by the
-//! plainest means: bit by bit, sample by sample, and commands found by trying them all. Beside them stand what it is asked: the
-//! stored cases, and generators of batches, commands, records and mount sheets.
+//! A second reading of document 01, with the bytes of document 02's, the field prediction of its R-6 and the mount
+//! sheets of its R-9, kept apart from the proved crates: it shares no code and no table with them. It gives the answers that the
+//! documents ask for by the plainest means: bit by bit, sample by sample, and commands found by trying them all. Beside them
+//! stand what it is asked: the stored cases, and generators of batches, commands, records and mount sheets.
 
 pub mod batch;
 pub mod batch_cases;
@@ -21,6 +21,8 @@ pub mod decode_cases;
 pub mod decode_fields;
 pub mod decode_refused;
 pub mod decode_valid;
+pub mod field_blocks;
+pub mod field_cases;
 pub mod first_blocks;
 pub mod first_cases;
 pub mod generate;
@@ -40,6 +42,7 @@ pub mod random;
 mod reached;
 pub mod record;
 pub mod record_cases;
+pub mod rules_field;
 pub mod rules_macroblock;
 pub mod rules_sequence;
 pub mod rules_state;

@@ -1,9 +1,10 @@
-//! What tiles bring about at the ends of a window, and which of it a block or a batch reaches. For tests that count it.
+//! What tiles and fields bring about at the ends of a window, and which of it a block or a batch reaches. For tests that count
+//! it.
 
 use crate::check_macroblock::Place;
 use crate::check_picture::{picture, surface};
 use crate::decode::commands;
-use crate::leaf::{byte_at, Block, Plane, Window};
+use crate::leaf::{byte_at, Block, Plane, Structure, Window};
 use std::collections::BTreeMap;
 
 pub const MARKS: [&str; 6] = [
@@ -33,10 +34,20 @@ pub const LOWEST_BY: [&str; 3] = [
     "the last macroblock has the lowest byte",
 ];
 
+/// What blocks of a field bring about.
+pub const FIELD_MARKS: [&str; 6] = [
+    "a block of the top field has the highest byte",
+    "a block of the bottom field has the highest byte",
+    "a block of the top field has the lowest byte",
+    "a block of the bottom field has the lowest byte",
+    "a block of a field has nine rows of luma",
+    "a block of a field has five rows of chroma",
+];
+
 pub const UNTOUCHED: &str = "no byte is touched";
 
-/// A byte, with its plane, column and row.
-type Sample = (u64, Plane, u64, u64);
+/// A byte, with its plane, column and row, and what its block is made of.
+type Sample = (u64, Plane, u64, u64, Structure);
 
 /// What is touched of one buffer.
 #[derive(Default)]
@@ -49,14 +60,16 @@ pub struct Touched {
     columns: Option<Window>,
     rows: Option<Window>,
     chroma_in_two: bool,
+    nine_rows: bool,
+    five_chroma_rows: bool,
 }
 
 impl Touched {
     pub fn add(&mut self, number: usize, block: &Block) {
-        let mut chroma_tile_rows = None;
+        let (mut luma_rows, mut chroma_rows) = (None, None);
         block.each_sample(|plane, column, row| {
             let byte = byte_at(block.pitch, column, row);
-            let sample = Some((byte, plane, column, row));
+            let sample = Some((byte, plane, column, row, block.structure));
             if self.lowest.is_none_or(|lowest| byte < lowest.0) {
                 (self.lowest, self.lowest_by) = (sample, number);
             }
@@ -65,15 +78,16 @@ impl Touched {
             }
             Window::add(&mut self.columns, column);
             Window::add(&mut self.rows, row);
-            if plane != Plane::Luma {
-                Window::add(&mut chroma_tile_rows, row / 32);
-            }
+            Window::add(if plane == Plane::Luma { &mut luma_rows } else { &mut chroma_rows }, row);
         });
-        self.chroma_in_two |= chroma_tile_rows.is_some_and(|rows| rows.first < rows.last);
+        self.chroma_in_two |= chroma_rows.is_some_and(|rows| rows.first / 32 < rows.last / 32);
+        let spans = |rows: Option<Window>, count: u64| rows.is_some_and(|rows| rows.last - rows.first == 2 * (count - 1));
+        self.nine_rows |= block.structure != Structure::Frame && spans(luma_rows, 9);
+        self.five_chroma_rows |= block.structure != Structure::Frame && spans(chroma_rows, 5);
     }
 
     fn highest_marks(&self) -> Option<[bool; 6]> {
-        let ((_, plane, column, row), columns, rows) = (self.highest?, self.columns?, self.rows?);
+        let ((_, plane, column, row, _), columns, rows) = (self.highest?, self.columns?, self.rows?);
         Some([
             plane == Plane::Luma,
             row < rows.last,
@@ -85,8 +99,14 @@ impl Touched {
     }
 
     fn lowest_marks(&self) -> Option<[bool; 5]> {
-        let ((byte, _, column, row), columns, rows) = (self.lowest?, self.columns?, self.rows?);
+        let ((byte, _, column, row, _), columns, rows) = (self.lowest?, self.columns?, self.rows?);
         Some([byte != 0, column >= 128, row >= 32, row > rows.first, column / 16 > columns.first / 16])
+    }
+
+    fn field_marks(&self) -> [bool; 6] {
+        let by = |end: Option<Sample>, structure: Structure| end.is_some_and(|end| end.4 == structure);
+        let ends = [self.highest, self.lowest].map(|end| [by(end, Structure::Top), by(end, Structure::Bottom)]);
+        [ends[0][0], ends[0][1], ends[1][0], ends[1][1], self.nine_rows, self.five_chroma_rows]
     }
 
     /// The marks that apply.
@@ -94,7 +114,7 @@ impl Touched {
         let (Some(highest), Some(lowest)) = (self.highest_marks(), self.lowest_marks()) else { return vec![UNTOUCHED] };
         let both = MARKS.into_iter().zip(highest).chain(LOWEST_MARKS.into_iter().zip(lowest));
         let cb = (CB_LOWEST, self.lowest.is_some_and(|lowest| lowest.1 == Plane::Cb));
-        both.chain([cb]).filter(|mark| mark.1).map(|mark| mark.0).collect()
+        both.chain(FIELD_MARKS.into_iter().zip(self.field_marks())).chain([cb]).filter(|mark| mark.1).map(|mark| mark.0).collect()
     }
 
     /// The same for what so many macroblocks touch.

@@ -23,7 +23,8 @@ fn values(fields: &[Field]) -> Vec<u32> {
     })
 }
 
-/// Words 1, 3 and 4 of each command that is accepted, by the judged bytes of its record.
+/// Words 1, 3 and 4 of each command that is accepted, by the judged bytes of its record. Commands that use bit 15 or type 04h are
+/// left out: until R-7 the record of such a one is that of another (`recordable`).
 struct Catalogue(BTreeMap<[u8; 5], [u32; 3]>);
 
 impl Catalogue {
@@ -107,6 +108,7 @@ pub fn write_alone(bytes: &[u8], lent: &mut [u32]) -> Answer {
 #[cfg(test)]
 mod tests {
     use super::*;
+    use crate::command::{kind, recordable, DCT_TYPE};
     use crate::command_cases::{distinct, random_command, skipped};
     use crate::random::Random;
 
@@ -204,17 +206,24 @@ mod tests {
         }
     }
 
+    /// A command that uses bit 15 or type 04h has the record of another, which doesn't: so no record is legal that was not.
     #[test]
     fn round_trips() {
         let mut r = Random::new(9);
+        let mut seen = [0; 2];
         for _ in 0..5_000 {
             let c = random_command(&mut r);
             let record = record_of(&c).unwrap();
-            assert_eq!(command_of(&record), Ok(c));
+            assert_eq!(command_of(&record), Ok(recordable(&c)));
+            let uses = DCT_TYPE.of(&c) == 1 || kind(&c) == Some(4);
+            assert_eq!(uses, recordable(&c) != c);
+            seen[usize::from(uses)] += 1;
             let other = random_record(&mut r);
             if let Ok(command) = command_of(&other) {
                 assert_eq!(record_of(&command), Ok(other));
+                assert_eq!(recordable(&command), command);
             }
         }
+        assert!(seen.iter().all(|count| *count > 1000), "{seen:?}");
     }
 }

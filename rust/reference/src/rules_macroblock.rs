@@ -4,8 +4,8 @@ use crate::batch::{lay_out, moved, rows, skip, small_b, small_i, small_p, still,
 use crate::batch_rules::Table;
 use crate::command::*;
 
-/// Words 1, 3 and 4, and bits of them that have one value.
-const FIXED: [(usize, &[u8]); 3] = [(1, &[15, 14, 7, 5, 3, 1, 0]), (3, &[15, 13, 12, 5, 2, 0]), (4, &[29, 28, 23, 14, 5])];
+/// Words 1, 3 and 4, and bits of them that have one value with PICTURE bit 10 = 1.
+const FIXED: [(usize, &[u8]); 3] = [(1, &[15, 14, 7, 5, 3, 1, 0]), (3, &[15, 13, 12, 5, 2, 0]), (4, &[29, 28, 23, 20, 14, 5])];
 
 fn fixed_bits(t: &mut Table) {
     for (base, command) in [(small_i(), 3), (small_b(), 5)] {

@@ -9,7 +9,7 @@ const FIXED: [(usize, usize, &[u8]); 5] = [
     (0, 2, &[0, 1, 2, 3]),
     (0, 3, &[31, 30, 29, 28, 27, 26, 23, 20, 2, 1, 0]),
     (0, 4, &[15, 16, 31]),
-    (1, 1, &[13, 12, 10, 9, 5, 3, 0]),
+    (1, 1, &[13, 12, 9, 5, 3, 0]),
 ];
 
 fn fixed(t: &mut Table, commands: usize) {
@@ -105,7 +105,7 @@ pub fn picture(t: &mut Table) {
         }
     }
     let mut free = small_p();
-    free.0[1][1] ^= 0x0000_c9c0;
+    free.0[1][1] ^= 0x0000_cdc0;
     free.0[1][2] ^= !0x0000_0600;
     free.0[1][3] ^= 0xff00_ff00;
     free.0[1][4..].fill(u32::MAX);

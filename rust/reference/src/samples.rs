@@ -1,6 +1,6 @@
 //! Small batches as files for the program, each with the line that it prints for them.
 
-use crate::batch::{moved, rows, skip, Frame};
+use crate::batch::{field_dct, moved, moved_fields, rows, skip, Frame};
 use crate::batch_cases::needed;
 use crate::batch_document::p1;
 use crate::command_cases::plain;
@@ -28,14 +28,23 @@ fn p10() -> Vec<u32> {
     rows(&Frame::new(2, 2, 1), &[plain(1, word_of(2, 0), 0), moved(0, 0, 0)]).words()
 }
 
+/// Two by two of a P picture with PICTURE bit 10 = 0. The lower left macroblock is predicted by fields: its top field from the
+/// reference's bottom field, which begins at byte 208, and its bottom field from the top one, which ends at byte 4833. The others
+/// are intra with their dct type set.
+fn by_fields() -> Vec<u32> {
+    let (fields, intra) = (moved_fields((word_of(1, -3), 1), (word_of(2, 0), 0)), field_dct(moved(0, 0, 0)));
+    rows(&Frame::with_fields(2, 2, 2), &[intra, intra, fields, intra]).words()
+}
+
 /// Each file's name and bytes.
-fn samples() -> [(&'static str, Vec<u8>); 4] {
+fn samples() -> [(&'static str, Vec<u8>); 5] {
     let beside_needed = |words: Vec<u32>| bytes_of(&words, needed(&words));
     [
         ("p1.batch", bytes_of(&p1(), [384, 384, 0, 0])),
         ("b_picture.batch", beside_needed(b_picture())),
         ("vector_below.batch", bytes_of(&vector_below(), [1 << 20; 4])),
         ("short_reference.batch", bytes_of(&p10(), [896, 896, 881, 0])),
+        ("by_fields.batch", beside_needed(by_fields())),
     ]
 }
 
@@ -60,6 +69,8 @@ mod tests {
         assert_eq!(lines[1], "accept 5376 5376 5236 5344 0 0 0 32");
         assert_eq!(lines[2], "refuse 10 50");
         assert_eq!(lines[3], "refuse 13 2 896 896 882 0 0 0 1 0");
+        // the last of the own samples is Cr's at column 31, row 47: 32·128 + 512 + 15·16 + 15 = 4863
+        assert_eq!(lines[4], "accept 4864 4864 4834 0 0 0 208 0");
     }
 
     /// The repository's samples are these, and there are no others.

@@ -181,7 +181,7 @@ mod tests {
     use super::*;
     use crate::batch_cases::{command_at, places_due};
     use crate::check::{beside, Report};
-    use crate::command::{header, kind, Field, LAST_IN_GROUP, LAST_IN_SLICE, SKIP};
+    use crate::command::{header, kind, Field, BOTTOM_CHOICE, DCT_TYPE, LAST_IN_GROUP, LAST_IN_SLICE, SKIP, TOP_CHOICE};
     use std::collections::{BTreeMap, BTreeSet};
 
     /// Every number from 0 to 13, numbers 2 to 11 at each word where one can stand, and every rule of the table broken alone
@@ -238,7 +238,7 @@ mod tests {
     }
 
     /// Whatever a valid batch may have comes up: types, f codes, sizes at their ends, skips, slices and groups that end in
-    /// mid-row, NOOPs, carried commands, zero words after END.
+    /// mid-row, NOOPs, carried commands, zero words after END; PICTURE bit 10, dct types and fields of every sort.
     #[test]
     fn every_shape() {
         let mut r = Random::new(42);
@@ -247,7 +247,7 @@ mod tests {
             let draft = Draft::new(&mut r);
             let f = draft.frame;
             let mut see = |mark: String| *seen.entry(mark).or_default() += 1;
-            see(format!("type {}", f.sort));
+            see(format!("type {} fields {}", f.sort, f.fields));
             f.codes.iter().enumerate().for_each(|(n, code)| see(format!("code {n} {code}")));
             for (name, value, ends) in [
                 ("columns", f.columns, [1, 256]),
@@ -263,6 +263,8 @@ mod tests {
                 let set = |field: Field| field.of(&at.c) == 1;
                 let mid_row = at.k % f.columns != f.columns - 1;
                 see(format!("kind {:?} skip {}", kind(&at.c), set(SKIP)));
+                see(format!("kind {:?} dct type {} type {}", kind(&at.c), set(DCT_TYPE), f.sort));
+                see(format!("kind {:?} choices {} {}", kind(&at.c), set(TOP_CHOICE), set(BOTTOM_CHOICE)));
                 see(format!("slice in mid-row {}", mid_row && set(LAST_IN_SLICE)));
                 see(format!("group in mid-row {}", mid_row && set(LAST_IN_GROUP)));
             }
@@ -274,11 +276,17 @@ mod tests {
         }
         let mut due = vec!["slice in mid-row true", "group in mid-row true", "zeros after END true", "NOOP 1"];
         due.extend(["carried 5", "carried 61", "carried 26", "carried 10", "carried 18", "carried 34"]);
+        let fields = (1..4).flat_map(|sort| [true, false].map(|fields| format!("type {sort} fields {fields}")));
+        let kinds = [(0, 1), (0, 2), (0, 3), (1, 2), (1, 3), (2, 3), (3, 3), (4, 2)];
+        let dct_types = kinds.into_iter().flat_map(|(kind, sort)| [true, false].map(|set| (kind, set, sort)));
+        let dct_types = dct_types.map(|(kind, set, sort)| format!("kind Some({kind}) dct type {set} type {sort}"));
+        let choices = (0..4).map(|n| format!("kind Some(4) choices {} {}", n % 2 == 1, n / 2 == 1));
         let skips = (1..4).map(|kind| format!("kind Some({kind}) skip true"));
         let codes = (1..10).flat_map(|code| (0..4).map(move |n| format!("code {n} {code}")));
         let sizes = ["columns", "rows", "width", "height", "pitch", "chroma row"];
         let ends = sizes.iter().flat_map(|name| ["least", "most"].map(|end| format!("{name} {end} true")));
-        for mark in due.into_iter().map(String::from).chain(skips).chain(codes).chain(ends) {
+        let by_fields = fields.chain(dct_types).chain(choices);
+        for mark in due.into_iter().map(String::from).chain(skips).chain(codes).chain(ends).chain(by_fields) {
             assert!(seen.get(&mark).is_some_and(|count| *count >= 5), "{mark}: {seen:?}");
         }
     }

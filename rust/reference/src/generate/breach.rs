@@ -1,4 +1,5 @@
-//! The table of breaches: each rule of document 01, with a change that breaks it somewhere in a batch that keeps them all.
+//! The table of breaches: each rule of document 01 and of document 02's R-6, with a change that breaks it somewhere in a batch
+//! that keeps them all.
 
 use crate::batch_valid::pick;
 use crate::command::{Answer, Command};
@@ -10,7 +11,7 @@ use crate::random::Random;
 type Change = dyn Fn(&mut Random, &mut Draft) -> Option<usize>;
 
 pub struct Breach {
-    /// The rule, in document 01's words or nearly so.
+    /// The rule, in the documents' words or nearly so.
     pub rule: String,
     pub number: u8,
     change: Box<Change>,
@@ -87,6 +88,7 @@ pub fn table() -> Vec<Breach> {
     all.extend(crate::generate::break_macroblock::breaches());
     all.extend(crate::generate::break_vectors::breaches());
     all.extend(crate::generate::break_skip::breaches());
+    all.extend(crate::generate::break_field::breaches());
     all
 }
 

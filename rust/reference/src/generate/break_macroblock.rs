@@ -1,4 +1,4 @@
-//! Rules of MACROBLOCK's words 1 to 4, skip apart: 4, 5, 6 and 7.
+//! Rules of MACROBLOCK's words 1 to 4, skip and fields apart: 4, 5, 6 and 7.
 
 use crate::batch_valid::pick;
 use crate::command::*;
@@ -26,19 +26,19 @@ const WORD_1: [Rule; 6] = [
         let other = any_value(r, (0..32).filter(|sort| *sort != 0x1a))?;
         is(&at.c, INTRA).then(|| with(at.c, TYPE, other))
     }),
-    ("intra: skip zero", 5, 1, |_, _, at| is(&at.c, INTRA).then(|| with(at.c, SKIP, 1))),
-    ("inter: type 1, 2 or 3", 5, 1, |r, _, at| {
-        let other = any_value(r, (0..32).filter(|sort| !(1..=3).contains(sort)))?;
-        (!is(&at.c, INTRA)).then(|| with(at.c, TYPE, other))
+    ("intra: skip zero", 5, 1, |_, _, at| is(&at.c, INTRA).then(|| with(with(at.c, SKIP, 1), DCT_TYPE, 0))),
+    ("inter: type 1, 2, 3 or 4", 5, 1, |r, _, at| {
+        let other = any_value(r, (0..32).filter(|sort| !(1..=4).contains(sort)))?;
+        matches!(kind(&at.c), Some(1..=3)).then(|| with(at.c, TYPE, other))
     }),
-    ("intra bit and type", 5, 1, |_, _, at| Some(with(at.c, INTRA, 1 - INTRA.of(&at.c)))),
+    ("intra bit and type", 5, 1, |_, _, at| (kind(&at.c) != Some(4)).then(|| with(at.c, INTRA, 1 - INTRA.of(&at.c)))),
     ("I allows intra only", 5, 1, |r, draft, at| {
         let inter = with(with(at.c, INTRA, 0), TYPE, pick(r, &[1, 2, 3]));
         (draft.frame.sort == 1).then_some(inter)
     }),
     ("P allows intra and 1", 5, 1, |r, draft, at| {
         let inter = with(at.c, TYPE, pick(r, &[2, 3]));
-        (draft.frame.sort == 2 && !is(&at.c, INTRA)).then_some(inter)
+        (draft.frame.sort == 2 && kind(&at.c) == Some(1)).then_some(inter)
     }),
 ];
 
@@ -90,8 +90,10 @@ const FLAGS_7: [Rule; 6] = [
 ];
 
 pub fn breaches() -> Vec<Breach> {
-    let zeros = [(1, 15, 15), (1, 14, 14), (1, 7, 3), (1, 1, 0), (3, 15, 12), (3, 5, 0), (4, 29, 28), (4, 23, 5)];
-    let mut all: Vec<Breach> = zeros.into_iter().map(|(word, hi, lo)| fixed("MACROBLOCK", word, hi, lo)).collect();
+    // bits 14 and 1:0 of word 1 have one value in each macroblock, another where it is predicted by fields
+    let zeros = [(1, 7, 3), (3, 15, 12), (3, 5, 0), (4, 29, 28), (4, 23, 19), (4, 17, 17), (4, 15, 5)];
+    let mut all: Vec<Breach> =
+        zeros.into_iter().chain([(1, 14, 14), (1, 1, 0)]).map(|(word, hi, lo)| fixed("MACROBLOCK", word, hi, lo)).collect();
     let rules = WORD_1.into_iter().chain(WORD_2).chain(WORDS_3_AND_4).chain(FLAGS_7);
     all.extend(rules.map(|(rule, number, word, change)| macroblock(rule, number, word, change)));
     all

@@ -37,7 +37,7 @@ fn of_itself() -> Vec<Breach> {
         }),
         macroblock("skip: a coded macroblock's skip bit", 11, 1, |_, _, at| {
             let coded = !is(&at.c, INTRA) && !is(&at.c, SKIP) && is(&at.c, PATTERN);
-            coded.then(|| with(at.c, SKIP, 1))
+            coded.then(|| with(with(at.c, SKIP, 1), DCT_TYPE, 0))
         }),
     ]
 }
@@ -107,7 +107,7 @@ fn in_b() -> Vec<Breach> {
             alike.then(|| (*before, in_place_of(skip(other, word, word), &at.c)))
         }),
         pair("skip in B: the same words 5 to 8", |r, draft, at, before| {
-            let sort = kind(before)?.into();
+            let sort = kind(before).filter(|kind| *kind != 4)?.into();
             let vector = |r: &mut Random, direction: usize| {
                 let other = random_vector(r, &draft.frame, at.k, direction);
                 let same = Some(before[5 + direction]).filter(|same| fits(&draft.frame, at.k, direction, *same));

@@ -89,7 +89,7 @@ fn relations() -> impl Iterator<Item = Breach> {
 
 pub fn breaches() -> Vec<Breach> {
     let surface = [(1, 31, 0), (2, 3, 0), (3, 31, 28), (3, 27, 27), (3, 26, 20), (3, 2, 2), (3, 1, 0), (4, 31, 15)];
-    let picture = [(1, 13, 12), (1, 10, 10), (1, 9, 9), (1, 5, 0)];
+    let picture = [(1, 13, 12), (1, 9, 9), (1, 5, 0)];
     let mut all: Vec<Breach> = surface.into_iter().map(|(word, hi, lo)| fixed("SURFACE", word, hi, lo)).collect();
     all.extend(picture.into_iter().map(|(word, hi, lo)| fixed("PICTURE", word, hi, lo)));
     all.push(pitch());

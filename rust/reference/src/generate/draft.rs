@@ -146,7 +146,7 @@ impl Draft {
 #[cfg(test)]
 mod tests {
     use super::*;
-    use crate::reached::{count, CB_LOWEST, LOWEST_BY, LOWEST_MARKS, MARKS, UNTOUCHED};
+    use crate::reached::{count, CB_LOWEST, FIELD_MARKS, LOWEST_BY, LOWEST_MARKS, MARKS, UNTOUCHED};
 
     /// In the references all that tiles bring about comes up, in dozens of batches and more. Of the own samples the last
     /// macroblock's chroma has the highest byte: no other sample has a later column or row.
@@ -162,6 +162,16 @@ mod tests {
             assert!(MARKS[..3].iter().all(|mark| of(buffer, mark) == 0), "{seen:?}");
             assert!(MARKS[3..].iter().all(|mark| of(buffer, mark) >= 150), "{seen:?}");
         }
+    }
+
+    /// Fields have the highest and the lowest byte of the forward reference in hundreds of batches, and no other buffer's.
+    #[test]
+    fn fields() {
+        let mut r = Random::new(51);
+        let seen = count((0..10_000).map(|_| Draft::new(&mut r).batch.words()));
+        let of = |buffer: usize, mark: &'static str| seen.get(&(buffer, mark)).copied().unwrap_or(0);
+        assert!(FIELD_MARKS.iter().all(|mark| of(2, mark) >= 200), "{seen:?}");
+        assert!(FIELD_MARKS.iter().all(|mark| of(0, mark) + of(1, mark) + of(3, mark) == 0), "{seen:?}");
     }
 
     /// In the references the lowest byte comes up wherever it may stand and whichever macroblock has it. Of those that are

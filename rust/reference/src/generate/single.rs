@@ -1,7 +1,7 @@
 //! Single commands and single records, each with the memory lent for the other.
 
 use crate::batch_valid::{once_in, pick};
-use crate::command::{record_of, COMMANDS, MACROBLOCK};
+use crate::command::*;
 use crate::command_cases::random_command;
 use crate::random::Random;
 
@@ -11,12 +11,24 @@ pub fn room(r: &mut Random, needed: usize) -> usize {
     pick(r, &[needed, needed, needed, needed + 1, needed + 8, needed.saturating_sub(1), less, 0])
 }
 
+/// Another value in one or two of the fields that R-6 has rules of.
+fn change_fields(r: &mut Random, words: &mut [u32]) {
+    let mut c: Command = (&*words).try_into().unwrap();
+    for _ in 0..r.within(1, 2) {
+        let field = pick(r, &[DCT_TYPE, FIELD_FLAG, MODE, SKIP, TYPE, INTRA, TOP_CHOICE, BOTTOM_CHOICE]);
+        let any = r.next() as u32;
+        field.set(&mut c, pick(r, &[0, 1, 4, any]));
+    }
+    words.copy_from_slice(&c);
+}
+
 /// A run of words, and the bytes lent for its record: legal, some bits wrong, a word replaced, another header, too few words,
 /// words behind the ninth, or any words.
 pub fn command(r: &mut Random) -> (Vec<u32>, usize) {
     let mut words = random_command(r).to_vec();
-    match r.within(0, 11) {
+    match r.within(0, 13) {
         0..=2 => {}
+        12..=13 => change_fields(r, &mut words),
         3..=6 => (0..r.within(1, 3)).for_each(|_| words[r.within(1, 8) as usize] ^= 1 << r.within(0, 31)),
         7 => words[r.within(1, 8) as usize] = r.next() as u32,
         8 => {
@@ -59,7 +71,6 @@ pub fn record(r: &mut Random) -> (Vec<u8>, usize) {
 mod tests {
     use super::*;
     use crate::cases::{read_answers, write_answers};
-    use crate::command::read_alone;
     use crate::record::write_alone;
     use std::collections::BTreeSet;
 
@@ -67,13 +78,25 @@ mod tests {
     fn every_number_at_every_place() {
         let mut r = Random::new(43);
         let (mut read, mut written) = (BTreeSet::new(), BTreeSet::new());
+        let (mut by_fields, mut dct_types) = (BTreeSet::new(), BTreeSet::new());
         for _ in 0..20_000 {
             let (words, room) = command(&mut r);
-            read.insert(read_alone(&words, &mut vec![0; room]));
+            let answer = read_alone(&words, &mut vec![0; room]);
+            read.insert(answer);
+            if let Some((c, _)) = words.split_first_chunk().filter(|(c, _)| c[0] == MACROBLOCK) {
+                by_fields.extend((kind(c) == Some(4)).then_some(answer));
+                dct_types.extend((DCT_TYPE.of(c) == 1).then_some(answer));
+            }
             let (bytes, room) = record(&mut r);
             written.insert(write_alone(&bytes, &mut vec![0; room]));
         }
         assert_eq!(read, read_answers());
+        // type 04h: all but 5 at words 1 and 3, which intra and other types have, and 8 at words that hold a vector
+        let never = |answer: &Answer| matches!(answer, (1 | 2, _) | (5, 1 | 3) | (8, 5 | 7));
+        assert_eq!(by_fields, read_answers().into_iter().filter(|answer| !never(answer)).collect());
+        // bit 15: all but 11, as it is wrong on a skipped macroblock
+        let never = |answer: &Answer| matches!(answer, (1 | 2 | 11, _));
+        assert_eq!(dct_types, read_answers().into_iter().filter(|answer| !never(answer)).collect());
         assert_eq!(written, write_answers());
     }
 }

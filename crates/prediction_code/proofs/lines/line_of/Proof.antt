@@ -1,7 +1,7 @@
 -- `line_of`: the line of n rows of macroblocks under an f code.
 use mathlib.Core.Path.{ap, _∙_}
 use Prim.Native.Nat.{ℕ}
-use Rattle.prediction.specs.Lines.{lineOf}
+use Rattle.prediction.specs.Lines.{lineOf, lineIn}
 use Rattle.prediction.proofs.LineCode.{line-narrow}
 use borrow.Author.Needs.{needs}
 use Rattle.prediction_code.proofs.lines.line_of.Statement.{statement}
@@ -35,6 +35,7 @@ cast-span : tie.Need-cast-span
 cast-span c = search needs
 
 returns : tie.Need-returns
+unfolding lineIn
 returns c =
     let e = c .before in
     let rows = e .before .luma-rows in

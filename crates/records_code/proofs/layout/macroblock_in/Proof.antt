@@ -2,7 +2,7 @@
 use Rattle.macroblock.proofs.Congruence.{same-macroblock}
 use Rattle.macroblock.specs.Cases.{caseOf}
 use Rattle.fields.specs.Word.{isSet}
-use mathlib.Core.Path.{ap, _∙_}
+use mathlib.Core.Path.{refl, ap, _∙_}
 use Rattle.records.specs.Records.{flagsOf, macroblockIn}
 use borrow.Author.Needs.{needs}
 use Rattle.records_code.proofs.layout.macroblock_in.Statement.{statement}
@@ -53,6 +53,7 @@ returns c =
     (c .before .before .before .before .before .number16-at3 .ensures)
     (c .before .before .before .before .before .before .before .before .before .before .case-of .ensures ∙ ap caseOf (c .before .before .before .before .before .before .before .before .before .before .before .motion-in .ensures))
     (ap isSet (c .before .before .before .before .number8-at2 .ensures))
+    refl
     (c .before .before .before .number8-at3 .ensures)
     (c .before .before .number8-at4 .ensures)
     (c .before .number8-at5 .ensures)

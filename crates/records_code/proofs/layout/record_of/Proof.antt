@@ -2,12 +2,15 @@
 use mir.Syntax.{w8}
 use mir.Val.{Fits}
 use mathlib.Core.Path.{_≡_, refl, sym, ap, subst, _∙_}
+use mathlib.Core.Bool.{cond}
 use mathlib.Core.List.{List}
 use Prim.Native.Nat.{ℕ, _<_}
 use native.Mathlib.Omega.{arith}
+use lib.Dec.{eqb}
 use lib.Seq.{sets}
 use Rattle.macroblock.specs.declared.Motion.{Motion}
 use Rattle.fields.specs.Bytes.{bytesOf}
+use Rattle.records.proofs.Recordable.{recordable-numbers}
 use Rattle.records.proofs.Spelling.{flag-fits, spelled}
 use borrow.Author.Needs.{needs}
 use Rattle.records_code.proofs.layout.record_of.Statement.{statement}
@@ -34,11 +37,14 @@ put i part e f = e ∙ ap (λ (l : List ℕ). sets l i part) f
 motion-of-requires : tie.Need-motion-of-requires
 motion-of-requires c κs = search needs
 
+recordable-kind-requires : tie.Need-recordable-kind-requires
+recordable-kind-requires c κs = search needs
+
 flag-of-requires : tie.Need-flag-of-requires
 flag-of-requires c κs = search needs
 
 cast-skip : tie.Need-cast-skip
-cast-skip c = subst (Fits w8) (sym (c .flag-of .ensures)) (record { fits = flag-fits (c .before .before .args .macroblock .skip) })
+cast-skip c = subst (Fits w8) (sym (c .flag-of .ensures)) (record { fits = flag-fits (c .before .before .before .args .macroblock .skip) })
 
 flags-byte-requires : tie.Need-flags-byte-requires
 flags-byte-requires c κs = search needs
@@ -82,10 +88,11 @@ put16-requires-3 c κs = search needs
 returns : tie.Need-returns
 returns c =
     let last = c .before .before .before .before .before .before .before .before .before .before in
-    let start = last .before .before .before in
+    let start = last .before .before .before .before in
     let m = start .args .macroblock in
-    let forward = last .before .before .motion-of .result .forward in
-    let motion = last .before .before .motion-of .ensures in
+    let forward = last .before .before .before .motion-of .result .forward in
+    let motion = last .before .before .before .motion-of .ensures in
+    let recorded = recordable-numbers (m .case) in
     put 0 (bytesOf 2 (m .column)) (c .put163 .ensures)
     (put 2 (bytesOf 2 (m .row)) (c .before .before .put162 .ensures)
     (put 4 (bytesOf 2 (m .upper)) (c .before .before .before .before .put16 .ensures)
@@ -99,17 +106,18 @@ returns c =
     refl
     refl
     refl
-    (ap (λ (x : Motion). x .kind) motion)
+    (last .before .before .recordable-kind .ensures ∙ ap (λ (x : Motion). cond (eqb (x .kind) 4) 1 (x .kind)) motion ∙ sym (recorded .0))
     (last .before .flag-of .ensures)
     (last .flags-byte .ensures)
-    (ap (λ (x : Motion). bytesOf 4 (x .forward)) motion)
-    (ap (λ (x : Motion). bytesOf 4 (x .backward)) motion)
+    (ap (λ (x : Motion). bytesOf 4 (x .forward)) motion ∙ ap (bytesOf 4) (sym (recorded .1)))
+    (ap (λ (x : Motion). bytesOf 4 (x .backward)) motion ∙ ap (bytesOf 4) (sym (recorded .2)))
 
 pub record-of-spec : {M : Type 1} → statement M
 record-of-spec =
     tie.close
     (tie.spec
     motion-of-requires
+    recordable-kind-requires
     flag-of-requires
     cast-skip
     flags-byte-requires

@@ -11,7 +11,7 @@ use Rattle.prediction.specs.declared.Extent.{Extent}
 use Rattle.prediction.specs.declared.Line.{Line}
 use Rattle.prediction.specs.declared.Surface.{Surface}
 use Rattle.prediction.specs.declared.Structure.the-variants.{Frame, TopField}
-use Rattle.rows.specs.Touching.{commandAt, pointsIn, acrossOf, downOf, placeOf, touchedAfter, lowestOf, Lowered}
+use Rattle.rows.specs.Touching.{commandAt, pointsIn, acrossOf, downOf, placeAlong, touchedAfter, lowestOf, Lowered}
 use Rattle.rows.proofs.TouchedLaws.{look-on, all-low, after-above, lowest-touches, lowest-first}
 use Rattle.rows_code.proofs.looking.first_after.Statement.{statement}
 use Rattle.rows_code.proofs.looking.first_after.Tie as tie
@@ -125,7 +125,7 @@ returns-2 c =
     let first = seen ∙ lowest-first (After e) some in
     seen
     ∙ sym (after-above points (a .surface) (a .position) (a .words .now) x y (a .at / 9) e (p .2) k some
-    (λ j. all-low (a .alone) (a .word) (a .allowed) (a .surface) (a .position .column + k) x (a .grid) (a .codes) (placeOf points (a .surface) (a .position) (a .words .now) j) (commandAt (a .words .now) j) (After e .first)
+    (λ j. all-low (a .alone) (a .word) (a .allowed) (a .surface) (a .position .column + k) x (a .grid) (a .codes) (placeAlong points (a .surface) (a .position) (a .words .now) j) (commandAt (a .words .now) j) (After e .first)
     (omega (arith, low .1, first, frame)) (λ f. omega (arith, low .2 f, first, field))) (omega (arith, l .inv .i-is, l .inv .within)))
 
 pub first-after-spec : {M : Type 1} → statement M
