@@ -33,6 +33,8 @@
  * and an earlier caller works as it is. A patch step: neither, but answers may be others. HROMULICE_VERSION is one number, greater for a
  * later version.
  *
+ * 3.1.1: batches whose PICTURE has bit 10 of word 1 as 0 are checked, with field prediction in P pictures and the dct type; 3.1.0 refused
+ *        them with 4.
  * 3.1.0: hromulice_ask_mount, hromulice_add_mount and hromulice_mount_vector.
  * 3.0.0: a hromulice_report has `firsts` behind `lengths`, and a caller that takes one has to be compiled again.
  * 2.1.0: hromulice_state_words.
@@ -40,8 +42,8 @@
  * 1.0.1: lengths are counted in Y tiles; 1.0.0 counted plain rows. */
 #define HROMULICE_VERSION_MAJOR 3
 #define HROMULICE_VERSION_MINOR 1
-#define HROMULICE_VERSION_PATCH 0
-#define HROMULICE_VERSION_TEXT "3.1.0"
+#define HROMULICE_VERSION_PATCH 1
+#define HROMULICE_VERSION_TEXT "3.1.1"
 #define HROMULICE_VERSION (HROMULICE_VERSION_MAJOR * 65536u + HROMULICE_VERSION_MINOR * 256u + HROMULICE_VERSION_PATCH)
 
 /* Before a function: an answer that is dropped is a warning. */
@@ -71,8 +73,8 @@ enum {
     HROMULICE_POSITION = 6,        /* a macroblock that is not at its position: its word 2 */
     HROMULICE_FLAG = 7,            /* a slice or group flag: the macroblock's word 4 */
     HROMULICE_VECTOR_COPY = 8,     /* a missing vector that is not the copy it has to be: the word */
-    HROMULICE_VECTOR_RANGE = 9,    /* a vector beyond its f code: the macroblock's word 5 or 6 */
-    HROMULICE_VECTOR_OUTSIDE = 10, /* a vector that points outside the picture: the macroblock's word 5 or 6 */
+    HROMULICE_VECTOR_RANGE = 9,    /* a vector beyond its f code: the macroblock's word 5, 6 or 7 */
+    HROMULICE_VECTOR_OUTSIDE = 10, /* a vector that points outside the picture: the macroblock's word 5, 6 or 7 */
     HROMULICE_SKIP = 11,           /* a macroblock that may not be skipped: its word 1 */
     HROMULICE_AFTER_END = 12,      /* a word after END that is not zero: that word */
     HROMULICE_BUFFER_SHORT = 13,   /* the lowest buffer that is too short: 0 source, 1 reconstructed, 2 forward, 3 backward reference */
@@ -147,7 +149,7 @@ typedef struct {
 
 /* The state of a check in parts, in memory that the caller lends. What the words mean is the library's own matter. Any content is
  * taken: words that hromulice_begin or hromulice_hand_over did not leave stand for some state too. It may be copied. There are more words
- * than a state has, so that a later library can keep more in them. hromulice_state_words answers how many the library takes. */
+ * than a state has, so that a later library can keep more in them; a check goes on with the library version that began it. hromulice_state_words answers how many the library takes. */
 #define HROMULICE_STATE_WORDS 128
 typedef struct {
     uint64_t words[HROMULICE_STATE_WORDS];
@@ -179,13 +181,17 @@ hromulice_report hromulice_check(const uint32_t *words, size_t count, hromulice_
 
 /* Checks likewise, and with number 0 writes the log: the 24-byte record of the k-th macroblock at log + 24 * k, k from 0. Bytes beyond
  * the last record stay as they are, and with any other number all of them do. 14 comes last: the batch has no other fault, and its
- * place is the bytes that the log needs, 24 for each macroblock of the picture. */
+ * place is the bytes that the log needs, 24 for each macroblock of the picture.
+ *
+ * A record has no room for the dct type (bit 15 of word 1) and for field prediction (type 04h). Of a macroblock that uses them it leaves
+ * out the dct type, and holds a field prediction as forward by word 5's vector. Written back, it gives another command than it came from;
+ * those of all other macroblocks give their own. */
 HROMULICE_MUST_USE
 hromulice_report hromulice_decode(const uint32_t *words, size_t count, hromulice_lengths lengths, uint8_t *log, size_t bytes);
 
 /* Reads one MACROBLOCK command, its nine words from the header on; words after the ninth are not read. With number 0 the first 24
  * bytes of `record` are its record and the others stay; with any other number all of them do. The numbers are 0, 1, 2, 4, 5, 8, 11 and
- * 14, with place 24. */
+ * 14, with place 24. What a record leaves out is said above. */
 HROMULICE_MUST_USE
 hromulice_answer hromulice_read_command(const uint32_t *words, size_t count, uint8_t *record, size_t bytes);
 

@@ -6,7 +6,7 @@ const MAJOR: u32 = 3;
 
 const MINOR: u32 = 1;
 
-const PATCH: u32 = 0;
+const PATCH: u32 = 1;
 
 // The version as one number, for a caller that compares it with the version that it was compiled for.
 #[no_mangle]

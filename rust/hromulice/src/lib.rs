@@ -11,7 +11,8 @@
 //! - [`check`]: a batch that is there as a whole. A driver asks it before it submits the batch.
 //! - [`Check`]: the same for a batch that comes in parts, with the same answer.
 //! - [`decode`]: the check, and if it accepts, a 24-byte record of each macroblock, for a log.
-//! - [`read_command`] and [`write_command`]: one MACROBLOCK command to its record, and back to the same bits.
+//! - [`read_command`] and [`write_command`]: one MACROBLOCK command to its record, and back to the same bits; the dct type and
+//!   field prediction have no room in a record, see [`decode`].
 //! - [`ask_mount`] and [`add_mount`]: mount sheets, which say edition by edition on which side of a boat the unit is mounted.
 //! - [`mount_vector`]: the vector of a measured shift on that side, the one place where a side becomes a sign.
 //! - [`meaning`]: what a number means, also one that a program printed.
@@ -95,6 +96,10 @@ pub fn check(words: &[u32], lengths: Lengths) -> Report {
 
 /// Checks a whole batch and, if it is accepted, writes the record of each macroblock to the log: the k-th one, from 0, at
 /// byte 24·k. What is lent beyond stays as it was, and so does all of it if the batch is refused.
+///
+/// A record has no room for the dct type (bit 15 of word 1) and for field prediction (type 04h). Of a macroblock that uses
+/// them it leaves out the dct type, and holds a field prediction as forward by word 5's vector, so that [`write_command`]
+/// gives another command than it came from.
 ///
 /// A caller that does not know the picture's size lends an empty log first and is told the bytes:
 ///

@@ -33,9 +33,9 @@ pub enum Reason {
     SliceOrGroupFlag = 7,
     /// 8: a missing vector is not the copy that it has to be. The place is its word.
     MissingVectorNotCopy = 8,
-    /// 9: a component of a vector is beyond its f code. The place is word 5 or 6 of the macroblock.
+    /// 9: a component of a vector is beyond its f code. The place is word 5, 6 or 7 of the macroblock.
     VectorBeyondFCode = 9,
-    /// 10: a vector points outside the picture. The place is word 5 or 6 of the macroblock.
+    /// 10: a vector points outside the picture. The place is word 5, 6 or 7 of the macroblock.
     OutsidePicture = 10,
     /// 11: a macroblock that may not be skipped is skipped. The place is its word 1.
     SkipRule = 11,
