@@ -7,6 +7,7 @@ pub mod batch_check;
 pub mod commands;
 pub mod contenders;
 pub mod details;
+pub mod fields;
 pub mod mounts;
 pub mod pictures;
 pub mod program;

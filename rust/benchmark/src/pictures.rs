@@ -1,6 +1,7 @@
 //! Valid pictures with the variety of a coded one, the same in every run: vectors that differ from macroblock to macroblock
 //! over the whole range of their f code, intra macroblocks among the predicted ones, skipped ones, slices within rows, several
-//! groups. Kinds follow each other at random, which is hard on a processor that predicts branches.
+//! groups. Kinds follow each other at random, which is hard on a processor that predicts branches. And P pictures of one kind
+//! alone, forward or field, which are compared with each other.
 
 use crate::contenders::Work;
 use reference::random::Random;
@@ -14,7 +15,7 @@ fn within(r: &mut Random, low: i32, high: i32) -> i32 {
     r.within(low.into(), high.into()) as i32
 }
 
-/// A picture type, the size in macroblocks, and the f code of every component that has one.
+/// A picture type, the size in macroblocks, the f code of every component that has one, and what macroblocks it has.
 #[derive(Clone, Copy)]
 pub struct Picture {
     /// 1 I, 2 P, 3 B.
@@ -22,6 +23,17 @@ pub struct Picture {
     pub columns: u32,
     pub rows: u32,
     pub f_code: u32,
+    pub mix: Mix,
+}
+
+#[derive(Clone, Copy, PartialEq, Eq)]
+pub enum Mix {
+    /// As a coded picture of its type has them, without field prediction.
+    Coded,
+    /// In P, all predicted from the frame and none skipped.
+    Forward,
+    /// In P, all of type 04h, with either dct type.
+    Field,
 }
 
 /// As many macroblocks as the largest picture has.
@@ -40,15 +52,40 @@ impl fmt::Display for Picture {
 impl Picture {
     /// With f code 4: vectors from −128 to 127 half samples.
     pub const fn new(coding: u32, columns: u32, rows: u32) -> Picture {
-        Picture { coding, columns, rows, f_code: 4 }
+        Picture { coding, columns, rows, f_code: 4, mix: Mix::Coded }
+    }
+
+    /// A P picture of forward macroblocks alone.
+    pub const fn forward(columns: u32, rows: u32) -> Picture {
+        Picture { mix: Mix::Forward, ..Picture::new(2, columns, rows) }
+    }
+
+    /// A P picture of field macroblocks alone.
+    pub const fn field(columns: u32, rows: u32) -> Picture {
+        Picture { mix: Mix::Field, ..Picture::new(2, columns, rows) }
+    }
+
+    /// Pictures of one size: of each type as a coded one, and of field macroblocks.
+    pub fn all(columns: u32, rows: u32) -> [Picture; 4] {
+        let coded = |coding: u32| Picture::new(coding, columns, rows);
+        [coded(1), coded(2), coded(3), Picture::field(columns, rows)]
     }
 
     pub fn name(&self) -> &'static str {
-        ["I", "P", "B"][self.coding as usize - 1]
+        match self.mix {
+            Mix::Coded => ["I", "P", "B"][self.coding as usize - 1],
+            Mix::Forward => "forward",
+            Mix::Field => "field",
+        }
     }
 
     pub fn macroblocks(&self) -> u32 {
         self.columns * self.rows
+    }
+
+    /// Two in each field macroblock. Every other macroblock counts as one, intra ones too.
+    pub fn vectors(&self) -> u32 {
+        self.macroblocks() * if self.mix == Mix::Field { 2 } else { 1 }
     }
 
     /// So many different pictures of this size that they have about as many macroblocks as one of the largest. So a small
@@ -64,7 +101,9 @@ impl Picture {
         let pitch = width.next_multiple_of(128);
         let codes = [0xffff, 0xff00 | (self.f_code * 0x11), self.f_code * 0x1111][self.coding as usize - 1];
         let mut words = vec![0x7001_0004, 0, (height - 1) << 18 | (width - 1) << 4, 0x4800_0003 | (pitch - 1) << 3, height, 0];
-        words.extend([0x7300_000b, codes << 16 | 0x3400, self.coding << 9, (self.rows - 1) << 16 | (self.columns - 1)]);
+        let frame_only = u32::from(self.mix != Mix::Field) << 10;
+        words.extend([0x7300_000b, codes << 16 | 0x3000 | frame_only, self.coding << 9]);
+        words.push((self.rows - 1) << 16 | (self.columns - 1));
         words.extend([0; 9]);
         words
     }
@@ -95,7 +134,7 @@ impl Picture {
             let flags = u32::from(slice_ends) << 31 | u32::from(slice_begins) << 30;
             let groups = u32::from(group_ends) << 26 | u32::from(group_begins) << 24;
             words.extend([0x7349_0007, prediction.type_bits() | u32::from(repeated.is_some()) << 2, row << 16 | column]);
-            words.extend([0xff80_0000 | pattern << 6, flags | groups | within(&mut r, 1, 31) as u32]);
+            words.extend([0xff80_0000 | pattern << 6, flags | groups | prediction.choices() | within(&mut r, 1, 31) as u32]);
             words.extend(prediction.vector_words());
             (slice_begins, group_begins, before) = (slice_ends, group_ends, prediction);
         }
@@ -104,6 +143,17 @@ impl Picture {
     }
 
     fn predicted(&self, r: &mut Random, column: u32, row: u32) -> Prediction {
+        match self.mix {
+            Mix::Coded => self.coded(r, column, row),
+            Mix::Forward => Prediction::Forward(self.vector(r, column, row)),
+            Mix::Field => {
+                let (top, bottom) = (self.vector(r, column, row), self.vector(r, column, row));
+                Prediction::Field(top, bottom, r.next() as u32)
+            }
+        }
+    }
+
+    fn coded(&self, r: &mut Random, column: u32, row: u32) -> Prediction {
         if percent(r, INTRA[self.coding as usize - 1]) {
             return Prediction::Intra;
         }
@@ -115,24 +165,30 @@ impl Picture {
         }
     }
 
-    /// The values that a component may have at a place in a line of n macroblocks.
-    fn span(&self, place: u32, n: u32) -> (i32, i32) {
-        let limit = 8 << self.f_code;
-        ((-limit).max(-32 * place as i32), (limit - 1).min(32 * (n - 1 - place) as i32))
+    /// The values that a component may have at a place in a line of n macroblocks of so many samples.
+    fn span(&self, samples: i32, place: u32, n: u32) -> (i32, i32) {
+        let limit = samples << self.f_code >> 1;
+        ((-limit).max(-2 * samples * place as i32), (limit - 1).min(2 * samples * (n - 1 - place) as i32))
+    }
+
+    /// The spans of x and y. A macroblock has 16 rows in the frame and 8 in a field.
+    fn spans(&self, column: u32, row: u32) -> [(i32, i32); 2] {
+        let rows = if self.mix == Mix::Field { 8 } else { 16 };
+        [self.span(16, column, self.columns), self.span(rows, row, self.rows)]
     }
 
     fn vector(&self, r: &mut Random, column: u32, row: u32) -> (i32, i32) {
-        let mut component = |(low, high): (i32, i32)| within(r, low, high);
-        (component(self.span(column, self.columns)), component(self.span(row, self.rows)))
+        self.spans(column, row).map(|(low, high)| within(r, low, high)).into()
     }
 
     /// What a skipped macroblock may be here: unmoved in P, like the one before in B.
     fn repeated(&self, before: Prediction, column: u32, row: u32) -> Option<Prediction> {
         let fits = |(x, y): (i32, i32)| {
-            let ((left, right), (top, bottom)) = (self.span(column, self.columns), self.span(row, self.rows));
+            let [(left, right), (top, bottom)] = self.spans(column, row);
             (left..=right).contains(&x) && (top..=bottom).contains(&y)
         };
         match (self.coding, before) {
+            _ if self.mix != Mix::Coded => None,
             (2, _) => Some(Prediction::Forward((0, 0))),
             (3, Prediction::Forward(v) | Prediction::Backward(v)) if fits(v) => Some(before),
             (3, Prediction::Both(v, w)) if fits(v) && fits(w) => Some(before),
@@ -147,6 +203,8 @@ enum Prediction {
     Forward((i32, i32)),
     Backward((i32, i32)),
     Both((i32, i32), (i32, i32)),
+    /// For the top and for the bottom field; and bits of which 15 is the dct type, 16 and 18 choose the reference fields.
+    Field((i32, i32), (i32, i32), u32),
 }
 
 impl Prediction {
@@ -156,6 +214,15 @@ impl Prediction {
             Prediction::Forward(_) => 0x100,
             Prediction::Backward(_) => 0x200,
             Prediction::Both(_, _) => 0x300,
+            Prediction::Field(_, _, bits) => 0x4401 | bits & 1 << 15,
+        }
+    }
+
+    /// Bits 16 and 18 of word 4.
+    fn choices(self) -> u32 {
+        match self {
+            Prediction::Field(_, _, bits) => bits & (1 << 16 | 1 << 18),
+            _ => 0,
         }
     }
 
@@ -165,6 +232,7 @@ impl Prediction {
             Prediction::Intra => [0; 4],
             Prediction::Forward(v) | Prediction::Backward(v) => [word(v); 4],
             Prediction::Both(v, w) => [word(v), word(w), word(v), word(w)],
+            Prediction::Field(v, w, _) => [word(v), word(v), word(w), word(v)],
         }
     }
 }

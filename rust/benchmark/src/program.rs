@@ -102,13 +102,13 @@ impl Runs<'_> {
 
 impl Times {
     fn heading(what: &str, last: &str) {
-        print!("{what:>10}  {:>10}  {:>10}  {:>10}", "bytes", "program ms", "check ms");
+        print!("{what:>13}  {:>10}  {:>10}  {:>10}", "bytes", "program ms", "check ms");
         println!("  {:>13}  {:>11}  {last:>13}", "program/check", "MB a second");
     }
 
     fn print(&self, what: &str, last: String) {
         let Times { program, check, bytes } = self;
-        print!("{what:>10}  {bytes:>10}  {:>10.3}  {:>10.3}", program * 1e3, check * 1e3);
+        print!("{what:>13}  {bytes:>10}  {:>10.3}  {:>10.3}", program * 1e3, check * 1e3);
         println!("  {:>13.2}  {:>11.0}  {last:>13}", program / check, *bytes as f64 / program / 1e6);
     }
 }
@@ -123,8 +123,7 @@ fn pictures(runs: &Runs) -> Result<()> {
     );
     Times::heading("picture", "without start");
     for (columns, rows) in [(120, 68), (256, 175)] {
-        for coding in 1..4 {
-            let picture = Picture::new(coding, columns, rows);
+        for picture in Picture::all(columns, rows) {
             let times = runs.times(&picture.words(0), RUNS_ON_PICTURES)?;
             times.print(&picture.to_string(), format!("{:.2}", (times.program - start) / times.check));
         }

@@ -5,7 +5,7 @@ use crate::pictures::Picture;
 use crate::timing::{measure, Caches, Sample};
 
 /// Columns and rows, in macroblocks: 720 by 576, 1920 by 1088 and 4096 by 2800 samples.
-const SIZES: [(u32, u32); 3] = [(45, 36), (120, 68), (256, 175)];
+pub const SIZES: [(u32, u32); 3] = [(45, 36), (120, 68), (256, 175)];
 
 /// Chroma begins in row 32, with a row of tiles, and in row 48, within one: there a luma byte can be the highest.
 const LOW_SIZES: [(u32, u32); 2] = [(120, 2), (120, 3)];
@@ -27,13 +27,13 @@ const RATIOS: [(&str, usize, usize); 7] = [
     ("check/sum", CHECK, SUM),
 ];
 
-/// Pictures of each type in these sizes.
+/// Pictures of each sort in these sizes.
 fn pictures<const N: usize>(sizes: [(u32, u32); N]) -> Vec<Picture> {
-    (1..4).flat_map(|coding| sizes.map(|(columns, rows)| Picture::new(coding, columns, rows))).collect()
+    (0..4).flat_map(|sort| sizes.map(|(columns, rows)| Picture::all(columns, rows)[sort])).collect()
 }
 
 /// Their times.
-fn measured(pictures: &[Picture]) -> Vec<Sample> {
+pub fn measured(pictures: &[Picture]) -> Vec<Sample> {
     let mut samples: Vec<Sample> = pictures.iter().map(|picture| Sample::new(picture.several(), &CONTENDERS)).collect();
     measure(&mut samples, ROUNDS, || {});
     samples
@@ -73,13 +73,13 @@ pub fn print() {
 }
 
 fn table(pictures: &[Picture], samples: &[Sample]) {
-    print!("{:>10}  {:>7} ", "picture", "words");
+    print!("{:>13}  {:>7} ", "picture", "words");
     CONTENDERS.iter().for_each(|contender| print!(" {:>6}", contender.name));
     print!(" ");
     RATIOS.iter().for_each(|(name, ..)| print!("  {name:>12}"));
     println!();
     for (picture, sample) in pictures.iter().zip(samples) {
-        print!("{:>10}  {:>7} ", picture.to_string(), sample.work.batches[0].len());
+        print!("{:>13}  {:>7} ", picture.to_string(), sample.work.batches[0].len());
         sample.times.iter().for_each(|time| print!(" {:>6.0}", sample.words() as f64 / time / 1e6));
         print!(" ");
         RATIOS.iter().for_each(|(_, above, below)| print!("  {:>12.2}", sample.times[*above] / sample.times[*below]));
@@ -95,7 +95,7 @@ fn growth(pictures: &[Picture], samples: &[Sample]) {
         for (picture, of_type) in pictures.iter().step_by(SIZES.len()).zip(samples.chunks(SIZES.len())) {
             let by_word: Vec<f64> = of_type.iter().map(|sample| sample.times[n] / sample.words() as f64 * 1e9).collect();
             let shown: Vec<String> = by_word.iter().map(|ns| format!("{ns:6.3}")).collect();
-            println!("{:>10} {}  {}  {:.2}", CONTENDERS[n].name, picture.name(), shown.join(" "), by_word[2] / by_word[0]);
+            println!("{:>10} {:>5}  {}  {:.2}", CONTENDERS[n].name, picture.name(), shown.join(" "), by_word[2] / by_word[0]);
         }
     }
 }

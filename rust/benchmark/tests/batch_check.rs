@@ -2,7 +2,7 @@
 
 use benchmark::batch_check::{check, check_up_to};
 use benchmark::pictures::Picture;
-use reference::batch::{moved, rows, Frame};
+use reference::batch::{moved, moved_fields, rows, Frame};
 use reference::batch_cases::{made_by, needed};
 use reference::batch_damage::damage;
 use reference::batch_document::{document, p1};
@@ -88,14 +88,16 @@ fn generated_batches() {
 fn interesting(r: &mut Random, words: &[u32], at: usize) -> u32 {
     let word = words[at];
     match r.within(0, 9) {
-        0 => pick(r, &[0, 1, u32::MAX, 1 << 31, 1 << 30, 1 << 26, 1 << 24, 4, 0x1a00, 0x2000]),
+        0 => pick(r, &[0, 1, u32::MAX, 1 << 31, 1 << 30, 1 << 26, 1 << 24, 4, 0x1a00, 0x2000, 0x4401, 0xc401, 0x400]),
         1 => pick(r, &COMMANDS).0,
         2 => pick(r, &COMMANDS).0 ^ 1 << r.within(0, 31),
         3 => word.rotate_left(16),
         4 => word.wrapping_add(pick(r, &[1, 0x1_0000, u32::MAX, 0xffff_0000])),
         5 => pick(r, words),
         6 => word_of(pick(r, &[0, 31, 32, 33, -1, -32, 4095, 4096, -4096, -32768]), pick(r, &[0, 1, 15, 16, -1, 32767])),
-        7 => word ^ pick(r, &[0x100, 0x200, 0x300, 0x2000, 0x3a00, 4, 0x204]),
+        7 => {
+            word ^ pick(r, &[0x100, 0x200, 0x300, 0x2000, 0x3a00, 4, 0x204, 0x8000, 0x4000, 0x4401, 0x4501, 3, 1 << 16, 1 << 18])
+        }
         _ => word ^ 1 << r.within(0, 31),
     }
 }
@@ -171,14 +173,53 @@ fn vectors() {
     }
 }
 
+/// The same by fields, in either field of the reference, for word 5 and for word 7, at three f codes.
+#[test]
+fn field_vectors() {
+    let mut numbers: BTreeMap<u8, u32> = BTreeMap::new();
+    for (x, y) in (-70..70).flat_map(|x: i64| (-40..40).step_by(2).map(move |y| (x, y + x.rem_euclid(2)))) {
+        for n in 0..12 {
+            let code = n / 4 + 1;
+            let frame = Frame { codes: [code, code, 15, 15], chroma_row: 48 + n, ..Frame::with_fields(2, 3, 3) };
+            let (vector, still) = ((word_of(x, y), n & 1), (0, n >> 1 & 1));
+            let c = if n & 2 == 0 { moved_fields(vector, still) } else { moved_fields(still, vector) };
+            let macroblocks: Vec<_> = (0..9).map(|k| if k == 4 { c } else { moved(0, 0, 0) }).collect();
+            let words = rows(&frame, &macroblocks).words();
+            *numbers.entry(same(&words, [u64::MAX; 4], judge(&words))).or_default() += 1;
+        }
+    }
+    assert!(numbers.keys().copied().eq([0, 9, 10]) && numbers.values().all(|count| *count > 5000), "{numbers:?}");
+}
+
+/// Every lower half of a macroblock's word 1 in each picture type, with PICTURE bit 10 set and not, and with other words that
+/// intra, skipped or field macroblocks may have.
+#[test]
+fn halves() {
+    let mut numbers: BTreeMap<(u32, bool, u8), u32> = BTreeMap::new();
+    let bodies = [(0xfc0, 0, [0; 4]), (0, 0, [0; 4]), (0, 5 << 16, [4, 4, 8, 4])];
+    for (sort, fields) in (1..4).flat_map(|sort| [(sort, false), (sort, true)]) {
+        let frame = Frame { fields, ..Frame::new(sort, 3, 1) };
+        for (half, (three, choices, vectors)) in (0..=0xffff).flat_map(|half| bodies.map(|body| (half, body))) {
+            let mut c = moved(0, 0, 0);
+            (c[1], c[3], c[4]) = (half, three, c[4] | choices);
+            c[5..].copy_from_slice(&vectors);
+            let words = rows(&frame, &[moved(0, 0, 0), c, moved(0, 0, 0)]).words();
+            *numbers.entry((sort, fields, same(&words, [u64::MAX; 4], judge(&words)))).or_default() += 1;
+        }
+    }
+    // In P with bit 10 zero: intra, forward and by fields, with bit 15 and without, on the bodies that suit them, and skipped.
+    for (sort, fields, due) in [(1, false, 1), (1, true, 2), (2, false, 4), (2, true, 13), (3, false, 7), (3, true, 14)] {
+        assert_eq!(numbers[&(sort, fields, 0)], due, "{numbers:?}");
+    }
+}
+
 /// Pictures of so many macroblocks that the lengths are raised by blocks in many rows, and the first bytes lowered by several: the
 /// benchmark's own, with near and far vectors, and ones of any pitch and first chroma row.
 #[test]
 fn large_pictures() {
     let mut r = Random::new(74);
     for seed in 0..6 {
-        for coding in 1..4 {
-            let near = Picture::new(coding, 30, 20);
+        for near in Picture::all(30, 20).into_iter().chain([Picture::forward(30, 20)]) {
             let words = Picture { f_code: [4, 1, 9][seed as usize % 3], ..near }.words(seed);
             assert_eq!(same_beside_all(&words), 0);
         }

@@ -87,16 +87,18 @@ struct Check {
     height: u32,
     pitch: u32,
     chroma_row: u32,
-    /// From PICTURE: type, W, H, and the f codes' limits: a component lies from −limit to limit−1.
+    /// From PICTURE: type, whether bit 10 is 0, W, H, and the f codes' limits for a forward, a backward and a field's vector: a
+    /// component lies from −limit to limit−1.
     coding: u32,
+    fields: bool,
     columns: u32,
     rows: u32,
-    limits: [[i32; 2]; 2],
+    limits: [[i32; 2]; 3],
     /// Where the next macroblock stands.
     column: u32,
     row: u32,
-    /// What a vector's y may be in this row: from the first of these numbers, and how many numbers.
-    spans: [[i32; 2]; 2],
+    /// What their y may be in this row: from the first of these numbers, and how many numbers.
+    spans: [[i32; 2]; 3],
     /// Bits 30 and 24 of word 4 as they must be in the next macroblock: no slice is open, a group begins.
     first: u32,
     /// The macroblock before: kind (0 for none, too) and words 5 and 6, from which 7 and 8 follow.
@@ -117,6 +119,15 @@ struct Check {
 const FIRST_IN_SLICE: u32 = 1 << 30;
 const FIRST_IN_GROUP: u32 = 1 << 24;
 
+/// The lower half of word 1 of a field macroblock, bit 15 apart, and the bits of word 4 that choose its reference fields.
+const FIELD_HALF: u32 = 0x4401;
+const CHOICES: u32 = 1 << 18 | 1 << 16;
+
+/// Sorts of vectors; the first two are numbers of references, too.
+const FORWARD: usize = 0;
+const BACKWARD: usize = 1;
+const FIELD: usize = 2;
+
 impl Check {
     fn surface(&mut self, c: &[u32]) -> Result<(), Fault> {
         let ok = |kept: bool, number: u8, word: usize| if kept { Ok(()) } else { Err((number, word)) };
@@ -134,9 +145,10 @@ impl Check {
     }
 
     fn picture(&mut self, c: &[u32]) -> Result<(), Fault> {
-        if c[1] & 0x363f != 0x3400 {
+        if c[1] & 0x323f != 0x3000 {
             return Err((4, 1));
         }
+        self.fields = c[1] & 1 << 10 == 0;
         let codes = [16, 20, 24, 28].map(|low| c[1] >> low & 15);
         let used = codes.map(|code| (1..=9).contains(&code));
         let unused = codes.map(|code| code == 15);
@@ -157,8 +169,8 @@ impl Check {
         if self.rows > 175 || !wide || !high {
             return Err((5, 3));
         }
-        let limit = |code: u32| 8 << code;
-        self.limits = [[limit(codes[0]), limit(codes[1])], [limit(codes[2]), limit(codes[3])]];
+        let [x, y, backward_x, backward_y] = codes.map(|code| 8 << code);
+        self.limits = [[x, y], [backward_x, backward_y], [x, y / 2]];
         (self.starts, self.left) = ([[right, bottom]; 2], [u32::MAX; 2]);
         self.first = FIRST_IN_SLICE;
         self.pictured = true;
@@ -173,15 +185,18 @@ impl Check {
 
     /// The macroblocks from a word on that follow each other. Answers the word behind them.
     fn macroblocks(&mut self, words: &[u32], at: usize) -> Result<usize, Fault> {
-        match self.coding {
-            I => self.run::<I>(words, at),
-            P => self.run::<P>(words, at),
-            _ => self.run::<B>(words, at),
+        match (self.coding, self.fields) {
+            (I, false) => self.run::<I, false>(words, at),
+            (I, true) => self.run::<I, true>(words, at),
+            (P, false) => self.run::<P, false>(words, at),
+            (P, true) => self.run::<P, true>(words, at),
+            (_, false) => self.run::<B, false>(words, at),
+            (_, true) => self.run::<B, true>(words, at),
         }
     }
 
     #[inline(never)]
-    fn run<const CODING: u32>(&mut self, words: &[u32], mut at: usize) -> Result<usize, Fault> {
+    fn run<const CODING: u32, const FIELDS: bool>(&mut self, words: &[u32], mut at: usize) -> Result<usize, Fault> {
         for c in words[at..].as_chunks::<9>().0 {
             if c[0] != MACROBLOCK {
                 break;
@@ -189,11 +204,11 @@ impl Check {
             if !self.in_group || self.row >= self.rows {
                 return Err((3, at));
             }
-            if !self.keeps::<CODING>(c) {
+            if !self.keeps::<CODING, FIELDS>(c) {
                 let (number, word) = self.fault(c);
                 return Err((number, at + word));
             }
-            self.take::<CODING>(c);
+            self.take::<CODING, FIELDS>(c);
             at += 9;
         }
         Ok(at)
@@ -201,15 +216,16 @@ impl Check {
 
     /// Whether a macroblock keeps every rule. Words 5 and 6 alone are compared with those before: 7 and 8 follow from them.
     #[inline(always)]
-    fn keeps<const CODING: u32>(&self, c: &[u32; 9]) -> bool {
+    fn keeps<const CODING: u32, const FIELDS: bool>(&self, c: &[u32; 9]) -> bool {
         let [_, one, two, three, four, five, six, seven, eight] = *c;
         let inter = |kind: u32| {
-            let forward = kind & 1 == 0 || self.inside(0, five);
-            let backward = kind & 2 == 0 || self.inside(1, six);
+            let forward = kind & 1 == 0 || self.inside(FORWARD, five);
+            let backward = kind & 2 == 0 || self.inside(BACKWARD, six);
             let copies = five ^ seven | six ^ eight | if kind == 3 { 0 } else { five ^ six };
             three & 0xf03f | copies == 0 && forward && backward
         };
-        let coded = match one & 0xffff {
+        let half = half::<FIELDS>(one);
+        let coded = match half {
             0x3a00 => three & 0xffff == 0xfc0 && five | six | seven | eight == 0,
             0x100 if CODING != I => inter(1),
             0x200 if CODING == B => inter(2),
@@ -219,9 +235,16 @@ impl Check {
                 let kind = one >> 8 & 3;
                 three & 0xffff | four & 3 << 30 == 0 && self.before == [kind, five, six] && inter(kind)
             }
+            FIELD_HALF if CODING == P && FIELDS => {
+                three & 0xf03f | five ^ six | five ^ eight == 0 && self.inside(FIELD, five) && self.inside(FIELD, seven)
+            }
             _ => false,
         };
-        let fixed = if CODING == I { 0x73ff_ffe0 } else { 0x71ff_ffe0 };
+        let fixed = match half {
+            FIELD_HALF if FIELDS => 0x71ff_ffe0 & !CHOICES,
+            _ if CODING == I => 0x73ff_ffe0,
+            _ => 0x71ff_ffe0,
+        };
         let last_due = self.column + 1 == self.columns || four & 1 << 26 != 0;
         coded
             && two == self.row << 16 | self.column
@@ -230,18 +253,19 @@ impl Check {
             && (!last_due || four >> 31 == 1)
     }
 
-    /// The values that a component may have by its f code and by its place in a line of n macroblocks. A block of 16 samples,
-    /// 17 for an odd component v, lies within the line exactly if 0 ≤ 32·place + v ≤ 32(n−1).
-    fn span(limit: i32, place: u32, n: u32) -> [i32; 2] {
-        let low = (-limit).max(-32 * place as i32);
-        let high = (limit - 1).min(32 * (n - 1 - place) as i32);
+    /// The values that a component may have by its f code and by its place in a line of n macroblocks of so many samples. A block
+    /// of 16 samples, 17 for an odd component v, lies within the line exactly if 0 ≤ 32·place + v ≤ 32(n−1); one of 8 likewise.
+    fn span(samples: i32, limit: i32, place: u32, n: u32) -> [i32; 2] {
+        let low = (-limit).max(-2 * samples * place as i32);
+        let high = (limit - 1).min(2 * samples * (n - 1 - place) as i32);
         [low, high - low + 1]
     }
 
     /// At the beginning of a row.
     fn begin_row(&mut self) {
         if self.row < self.rows {
-            self.spans = self.limits.map(|[_, y]| Self::span(y, self.row, self.rows));
+            let span = |sort: usize, samples: i32| Self::span(samples, self.limits[sort][1], self.row, self.rows);
+            self.spans = [span(FORWARD, 16), span(BACKWARD, 16), span(FIELD, 8)];
             self.early = self.starts.map(|start| self.early_for(start));
         }
     }
@@ -255,9 +279,9 @@ impl Check {
 
     /// Whether a vector is within its f code and points inside the picture.
     #[inline(always)]
-    fn inside(&self, direction: usize, vector: u32) -> bool {
+    fn inside(&self, sort: usize, vector: u32) -> bool {
         let [x, y] = components(vector);
-        let (limit, [low, count]) = (self.limits[direction][0], self.spans[direction]);
+        let (limit, [low, count]) = (self.limits[sort][0], self.spans[sort]);
         ((y - low) as u32) < count as u32
             && ((x + limit) as u32) < 2 * limit as u32
             && (x + 32 * self.column as i32) as u32 <= 32 * (self.columns - 1)
@@ -275,36 +299,33 @@ impl Check {
         self.byte([2 * x + 1, self.chroma_row + y])
     }
 
-    /// Counts a vector's blocks. With h the component v halved towards zero the chroma block starts at 8·place + floor(h/2) and
-    /// has 8 samples, 9 if h is odd: the last is 8·place + 7 + ceil(h/2). Its strip is numbered by the row of tiles in the upper
-    /// half and by 16 bytes, 8 samples, in the lower.
+    /// Counts a vector's blocks. A chroma block's strip is numbered by the row of tiles in the upper half and by 16 bytes, 8
+    /// samples, in the lower.
     #[inline(always)]
-    fn reach(&mut self, direction: usize, vector: u32) {
-        let last = |v: i32, place: u32| (8 * place as i32 + 7 + ((v + (v < 0) as i32 + 2) >> 2)) as u32;
+    fn reach(&mut self, direction: usize, vector: u32, from: impl Source) {
         let [x, y] = components(vector);
-        let chroma = [last(x, self.column), last(y, self.row)];
+        let chroma = [last(8, self.column, chroma_end(x)), last(8, self.row, from.end(chroma_end(y)))];
         let strip = (self.chroma_row + chroma[1]) >> 5 << 16 | chroma[0] >> 3;
-        if strip >= self.strips[direction] || (chroma[0] < self.left[direction] && y < self.early[direction]) {
-            self.widen(direction, [x, y], chroma, strip);
+        if strip >= self.strips[direction] || (chroma[0] < self.left[direction] && from.start(y) < self.early[direction]) {
+            self.widen(direction, [x, y], from, chroma, strip);
         }
     }
 
     /// The same where the end may be raised or the start lowered.
     #[inline(never)]
-    fn widen(&mut self, direction: usize, [x, y]: [i32; 2], chroma: [u32; 2], strip: u32) {
+    fn widen(&mut self, direction: usize, [x, y]: [i32; 2], from: impl Source, chroma: [u32; 2], strip: u32) {
         if strip >= self.strips[direction] {
-            self.raise(direction, [x, y], chroma, strip);
+            let luma = [last(16, self.column, luma_end(x)), last(16, self.row, from.end(luma_end(y)))];
+            self.raise(direction, luma, chroma, strip);
         }
-        if y < self.early[direction] {
-            self.lower(direction, [x, y]);
+        if from.start(y) < self.early[direction] {
+            self.lower(direction, [x, from.start(y)]);
         }
     }
 
-    /// The last sample of the luma block is 16·place + 15 + ceil(v/2).
-    fn raise(&mut self, direction: usize, [x, y]: [i32; 2], chroma: [u32; 2], strip: u32) {
-        let last = |v: i32, place: u32| (16 * place as i32 + 15 + ((v + 1) >> 1)) as u32;
-        let luma = self.byte([last(x, self.column), last(y, self.row)]);
-        let end = self.cr(chroma).max(luma) + 1;
+    /// By the last luma and the last chroma sample.
+    fn raise(&mut self, direction: usize, luma: [u32; 2], chroma: [u32; 2], strip: u32) {
+        let end = self.cr(chroma).max(self.byte(luma)) + 1;
         if end > self.ends[direction] {
             self.ends[direction] = end;
             self.strips[direction] = strip;
@@ -327,14 +348,18 @@ impl Check {
 
     /// A macroblock that keeps every rule.
     #[inline(always)]
-    fn take<const CODING: u32>(&mut self, c: &[u32; 9]) {
+    fn take<const CODING: u32, const FIELDS: bool>(&mut self, c: &[u32; 9]) {
         let kind = kind(c);
         if CODING != I && kind & 1 != 0 {
-            self.reach(0, c[5]);
+            self.reach(FORWARD, c[5], WholeFrame);
+        }
+        if CODING == P && FIELDS && kind == 4 {
+            self.reach(FORWARD, c[5], OneField(c[4] >> 16 & 1));
+            self.reach(FORWARD, c[7], OneField(c[4] >> 18 & 1));
         }
         if CODING == B {
             if kind & 2 != 0 {
-                self.reach(1, c[6]);
+                self.reach(BACKWARD, c[6], WholeFrame);
             }
             self.before = [kind, c[5], c[6]];
         }
@@ -359,7 +384,7 @@ impl Check {
 
     /// Words 1 to 4: number, word, and whether the rule is kept.
     fn first_rules(&self, c: &[u32; 9]) -> [(u8, usize, bool); 9] {
-        let kind = kind(c);
+        let (kind, field) = (kind(c), self.is_field(c));
         let skip = c[1] & 4 != 0;
         let pattern = c[3] >> 6 & 63;
         let named = if c[1] & 0x2000 != 0 { c[1] & 0x1f04 == 0x1a00 } else { (1..=3).contains(&(c[1] >> 8 & 31)) };
@@ -368,6 +393,7 @@ impl Check {
             P => kind < 2,
             _ => true,
         };
+        let fixed = if self.fields && !skip { 0x40fb } else { 0xc0fb };
         let repeated = match self.coding {
             P => c[5..] == [0; 4],
             B => kind != 0 && self.before == [kind, c[5], c[6]] && c[5..] == due(kind, c),
@@ -378,35 +404,43 @@ impl Check {
             && (last || self.column + 1 != self.columns)
             && (last || c[4] & 1 << 26 == 0);
         [
-            (4, 1, c[1] & 0xc0fb == 0),
-            (5, 1, named && permitted),
-            (11, 1, !skip || (c[4] & 3 << 30 == 0 && pattern == 0 && repeated)),
+            (4, 1, c[1] & fixed == if field { 0x4001 } else { 0 }),
+            (5, 1, field || (named && permitted)),
+            (11, 1, !skip || (c[4] & 3 << 30 == 0 && pattern == 0 && repeated && !field)),
             (6, 2, c[2] == self.row << 16 | self.column),
             (4, 3, c[3] & 0xf03f == 0),
             (5, 3, kind != 0 || pattern == 63),
-            (4, 4, c[4] & 0x30ff_ffe0 == 0),
+            (4, 4, c[4] & 0x30ff_ffe0 & !if field { CHOICES } else { 0 } == 0),
             (5, 4, c[4] & 31 != 0 && (self.coding != I || c[4] & 1 << 25 == 0)),
             (7, 4, flags),
         ]
     }
 
+    /// Whether it is of type 04h, and that is allowed.
+    fn is_field(&self, c: &[u32; 9]) -> bool {
+        self.fields && self.coding == P && c[1] & 0x3f00 == 0x400
+    }
+
     /// Words 5 to 8, in the same way.
-    fn vector_rules(&self, c: &[u32; 9]) -> [(u8, usize, bool); 8] {
+    fn vector_rules(&self, c: &[u32; 9]) -> [(u8, usize, bool); 10] {
         let kind = kind(c);
         let [five, six, seven, eight] = due(kind, c);
-        let in_range = |direction: usize, vector: u32| {
-            let ([x, y], [limit_x, limit_y]) = (components(vector), self.limits[direction]);
+        let in_range = |sort: usize, vector: u32| {
+            let ([x, y], [limit_x, limit_y]) = (components(vector), self.limits[sort]);
             (-limit_x..limit_x).contains(&x) && (-limit_y..limit_y).contains(&y)
         };
-        let (no_forward, no_backward) = (kind & 1 == 0, kind & 2 == 0);
+        let sort = if kind == 4 { FIELD } else { FORWARD };
+        let (no_first, no_backward, no_second) = (kind & 5 == 0, kind & 2 == 0, kind != 4);
         [
             (8, 5, c[5] == five),
-            (9, 5, no_forward || in_range(0, c[5])),
-            (10, 5, no_forward || self.inside(0, c[5])),
+            (9, 5, no_first || in_range(sort, c[5])),
+            (10, 5, no_first || self.inside(sort, c[5])),
             (8, 6, c[6] == six),
-            (9, 6, no_backward || in_range(1, c[6])),
-            (10, 6, no_backward || self.inside(1, c[6])),
+            (9, 6, no_backward || in_range(BACKWARD, c[6])),
+            (10, 6, no_backward || self.inside(BACKWARD, c[6])),
             (8, 7, c[7] == seven),
+            (9, 7, no_second || in_range(FIELD, c[7])),
+            (10, 7, no_second || self.inside(FIELD, c[7])),
             (8, 8, c[8] == eight),
         ]
     }
@@ -425,14 +459,21 @@ impl Check {
     }
 }
 
-/// 0 intra, 1 forward, 2 backward, 3 both, of a macroblock whose word 1 is permitted.
+/// 0 intra, 1 forward, 2 backward, 3 both, 4 field, of a macroblock whose word 1 is permitted.
 #[inline(always)]
 fn kind(c: &[u32; 9]) -> u32 {
     if c[1] & 0x2000 != 0 {
         0
     } else {
-        c[1] >> 8 & 3
+        c[1] >> 8 & 7
     }
+}
+
+/// The lower half of word 1, without bit 15 where that is free: on macroblocks that are not skipped, if PICTURE bit 10 is 0.
+#[inline(always)]
+fn half<const FIELDS: bool>(one: u32) -> u32 {
+    let free = if FIELDS { (!one & 4) << 13 } else { 0 };
+    one & 0xffff & !free
 }
 
 /// x in the low half, y in the high half, two's complement.
@@ -447,8 +488,68 @@ fn due(kind: u32, c: &[u32; 9]) -> [u32; 4] {
         0 => [0; 4],
         1 => [c[5]; 4],
         2 => [c[6]; 4],
-        _ => [c[5], c[6], c[5], c[6]],
+        3 => [c[5], c[6], c[5], c[6]],
+        _ => [c[5], c[5], c[7], c[5]],
     }
+}
+
+/// What a vector predicts from.
+trait Source: Copy {
+    /// The y with which a block of the frame starts in the same row.
+    fn start(self, y: i32) -> i32;
+    /// How many rows of the frame later than its macroblock a block ends that is moved so many of its own rows.
+    fn end(self, rows: i32) -> i32;
+}
+
+#[derive(Clone, Copy)]
+struct WholeFrame;
+
+impl Source for WholeFrame {
+    #[inline(always)]
+    fn start(self, y: i32) -> i32 {
+        y
+    }
+
+    #[inline(always)]
+    fn end(self, rows: i32) -> i32 {
+        rows
+    }
+}
+
+/// The top field, 0, or the bottom one, 1. Its row r is 2r + field in the frame; a macroblock's last row in the top field is its
+/// last but one.
+#[derive(Clone, Copy)]
+struct OneField(u32);
+
+impl Source for OneField {
+    #[inline(always)]
+    fn start(self, y: i32) -> i32 {
+        2 * (2 * (y >> 1) + self.0 as i32)
+    }
+
+    #[inline(always)]
+    fn end(self, rows: i32) -> i32 {
+        2 * rows + self.0 as i32 - 1
+    }
+}
+
+/// How much later a luma block ends that is moved by a component: ceil(v/2), since it starts floor(v/2) later and has a sample
+/// more if v is odd.
+#[inline(always)]
+fn luma_end(v: i32) -> i32 {
+    (v + 1) >> 1
+}
+
+/// The same of chroma, by the component halved towards zero.
+#[inline(always)]
+fn chroma_end(v: i32) -> i32 {
+    (v + (v < 0) as i32 + 2) >> 2
+}
+
+/// The last column or row of a block that ends so much later than its macroblock.
+#[inline(always)]
+fn last(samples: i32, place: u32, later: i32) -> u32 {
+    (samples * (place as i32 + 1) - 1 + later) as u32
 }
 
 /// The check of a batch of which no word beyond the first so many is judged.
@@ -480,6 +581,7 @@ mod tests {
     use crate::batch_rules::rule_table;
     use crate::batch_valid::{pick, random_batch, random_frame};
     use crate::command::COMMANDS;
+    use crate::generate::batches::Batches;
     use crate::random::Random;
     use crate::valid_cases::valid;
     use std::collections::BTreeMap;
@@ -538,10 +640,22 @@ mod tests {
         assert!(numbers.keys().copied().eq(0..=13) && numbers.values().all(|count| *count > 100), "{numbers:?}");
     }
 
+    /// Batches of every sort, among them each rule broken alone.
+    #[test]
+    fn generated_batches() {
+        let (mut r, batches) = (Random::new(62), Batches::default());
+        let mut numbers = BTreeMap::new();
+        for _ in 0..10_000 {
+            let batch = batches.next(&mut r);
+            *numbers.entry(same(&batch.words, batch.buffers)).or_insert(0) += 1;
+        }
+        assert!(numbers.keys().copied().eq(0..=13), "{numbers:?}");
+    }
+
     fn damaged(r: &mut Random, words: &[u32]) -> Vec<u32> {
         let mut words = words.to_vec();
         let at = r.within(0, words.len() as i64 - 1) as usize;
-        match r.within(0, 7) {
+        match r.within(0, 8) {
             0 => words.truncate(at),
             1 => words[at] = r.next() as u32,
             2 => words[at] = pick(r, &COMMANDS).0,
@@ -550,6 +664,7 @@ mod tests {
             }
             4 => words.insert(at, pick(r, &[0, 1, 0x0500_0000, 0x7349_0007])),
             5 => words.push(r.within(0, 1) as u32),
+            6 => words[at] ^= pick(r, &[0x8000, 0x4000, 0x4401, 0x4501, 0x3000, 3, 4, 1 << 16, 1 << 18]),
             _ => words[at] ^= 1 << r.within(0, 31),
         }
         words

@@ -1,5 +1,5 @@
-/* Document 01's check of a whole batch, with document 02's tiles and first bytes, in C for x86-64: what the proved check is
- * measured by.
+/* Document 01's check of a whole batch, with document 02's tiles, first bytes and field prediction, in C for x86-64: what the
+ * proved check is measured by.
  *
  * It was written from those documents' text alone, and shares nothing with the proved crates or with the second program. The
  * tests of rust/benchmark hold its answers to the second program's. It goes through the words once, up to the first fault, and

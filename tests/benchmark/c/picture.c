@@ -37,9 +37,10 @@ static int f_codes_permitted(uint32_t type, uint32_t codes)
 
 fault read_picture(picture *p, const uint32_t *command)
 {
-    /* 1: f codes forward x 19:16, forward y 23:20, backward x 27:24, backward y 31:28; 13:12 = 3, 10 = 1, 9 = 0, 5:0 zero. */
-    if ((command[1] & 0x0000363f) != 0x00003400)
+    /* 1: f codes forward x 19:16, forward y 23:20, backward x 27:24, backward y 31:28; 13:12 = 3, 9 = 0, 5:0 zero. */
+    if ((command[1] & 0x0000323f) != 0x00003000)
         return fault_at(4, 1);
+    p->fields = !(command[1] & 0x00000400);
     /* 2: type in 10:9, 1 I, 2 P, 3 B. The f codes are judged here. */
     uint32_t codes = command[1] >> 16;
     p->type = command[2] >> 9 & 3;

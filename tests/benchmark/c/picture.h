@@ -11,6 +11,8 @@ typedef struct {
     uint32_t width, height, pitch, chroma_row;
     /* PICTURE */
     uint32_t type, columns, rows;
+    /* "PICTURE bit 10 may now be 0": whether it is. */
+    int fields;
     /* "With f code c a component lies from −16·2^(c−1) to 16·2^(c−1)−1": this is 16·2^(c−1) for forward x, forward y,
      * backward x, backward y, and 16 for a direction that the picture does not have. */
     int16_t reach[4];

@@ -1,8 +1,9 @@
-//! B pictures with vectors that are chosen, and both checkers held to the second program's answers to them.
+//! B pictures, and P pictures predicted by fields, with vectors that are chosen; and both checkers held to the second program's
+//! answers to them.
 
 use benchmark::batch_check;
-use reference::batch::{moved, rows, Frame};
-use reference::batch_valid::{inside, range};
+use reference::batch::{moved, moved_fields, rows, Frame};
+use reference::batch_valid::{halved, inside, range};
 use reference::check::{beside, judge, lengths_of, Judged, Report, Windows};
 use reference::command::Command;
 use reference::command_cases::plain;
@@ -31,8 +32,16 @@ pub fn frame(columns: u32, rows: u32, pitch: u32, chroma_row: u32) -> Frame {
     Frame { pitch, chroma_row, codes: [9; 4], ..Frame::new(3, columns, rows) }
 }
 
+/// A P picture in which every vector of a field is.
+pub fn field_frame(columns: u32, rows: u32, pitch: u32, chroma_row: u32) -> Frame {
+    Frame { pitch, chroma_row, codes: [9, 9, 15, 15], ..Frame::with_fields(2, columns, rows) }
+}
+
 /// x and y.
 pub type Vector = (i64, i64);
+
+/// A vector, and the field of the reference that is chosen for it: 0 top, 1 bottom.
+pub type FieldVector = (Vector, u32);
 
 /// Intra, but for these macroblocks: number, forward and backward vector.
 pub fn picture(frame: &Frame, predicted: &[(u32, Vector, Vector)]) -> Vec<u32> {
@@ -43,9 +52,29 @@ pub fn picture(frame: &Frame, predicted: &[(u32, Vector, Vector)]) -> Vec<u32> {
     rows(frame, &all).words()
 }
 
+/// Intra, but for these macroblocks: number, the top field's vector and the bottom's.
+pub fn field_picture(frame: &Frame, predicted: &[(u32, FieldVector, FieldVector)]) -> Vec<u32> {
+    let mut all: Vec<Command> = vec![moved(0, 0, 0); frame.macroblocks()];
+    let words = |((x, y), field): FieldVector| (word_of(x, y), field);
+    for &(k, top, bottom) in predicted {
+        all[k as usize] = moved_fields(words(top), words(bottom));
+    }
+    rows(frame, &all).words()
+}
+
+/// The values that are in both.
+fn common((low, high): (i64, i64), (least, most): (i64, i64)) -> (i64, i64) {
+    (low.max(least), high.min(most))
+}
+
 /// The first and the last component that the k-th macroblock may have, in x and in y, with the same f code both ways.
 pub fn spans(frame: &Frame, k: u32) -> [(i64, i64); 2] {
-    let within = |code: u32, (low, high): (i64, i64)| (low.max(range(code).0), high.min(range(code).1));
     let [x, y] = [inside(k % frame.columns, frame.columns), inside(k / frame.columns, frame.rows)];
-    [within(frame.codes[0], x), within(frame.codes[1], y)]
+    [common(range(frame.codes[0]), x), common(range(frame.codes[1]), y)]
+}
+
+/// The same of a vector of a field.
+pub fn field_spans(frame: &Frame, k: u32) -> [(i64, i64); 2] {
+    let y = inside(k / frame.columns, frame.rows);
+    [spans(frame, k)[0], common(halved(range(frame.codes[1])), halved(y))]
 }
