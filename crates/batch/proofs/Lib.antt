@@ -1,5 +1,6 @@
 -- for the crates above
 pub mod Answering
+pub mod Before
 pub mod BufferLengths
 pub mod CommandList
 pub mod Measuring

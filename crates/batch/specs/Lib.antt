@@ -1,4 +1,5 @@
 pub mod Batches
+pub mod Before
 pub mod Demand
 pub mod Numbers
 pub mod Reports

@@ -1,4 +1,5 @@
 -- for the crates above
+pub mod Before
 pub mod BlockAnswers
 pub mod MacroblockLaws
 pub mod PositionLaws

@@ -1,3 +1,4 @@
+pub mod Before
 pub mod Blocks
 pub mod Examples
 pub mod Placing
