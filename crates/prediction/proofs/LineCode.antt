@@ -15,10 +15,11 @@ use Rattle.prediction.specs.Vectors.{vectorOf}
 use Rattle.prediction.specs.Spans.{firstOf, halved}
 use Rattle.prediction.specs.Extents.{emptyExtent}
 use Rattle.prediction.specs.Addresses.{luma, address}
-use Rattle.prediction.specs.Structures.{halfRows, rowsIn, rowOf}
+use Rattle.prediction.specs.Structures.{halfRows, rowsIn, stepOf, parityOf, rowOf}
 use Rattle.prediction.specs.Blocks.{blockExtent, startOf, lastOf}
 use Rattle.prediction.specs.Lines.{limitOf, lineOf, inLine, reachOf}
 use Rattle.prediction.specs.declared.Structure.{Structure}
+use Rattle.prediction.specs.declared.Structure.the-variants.{Frame, TopField, BottomField}
 use Rattle.prediction.specs.declared.Vector.{Vector}
 use Rattle.prediction.specs.declared.Surface.{Surface}
 use Rattle.prediction.specs.declared.Position.{Position}
@@ -28,6 +29,12 @@ use Rattle.prediction.proofs.Integers.{split, pos-sub, add-sub, le-sums
 use Rattle.prediction.proofs.Components.{half-below, half-above, first-is, start-at, last-at}
 use Rattle.prediction.proofs.TwosComplement.{pair}
 use Rattle.prediction.proofs.BlockBytes.{half-pos, rows-pos, block-is}
+
+-- ---- rows of the frame, without a choice
+pub row-steps : (k : Structure) (r : ℕ) → (stepOf k * r + parityOf k ≡ rowOf k r) × (rowOf k r ≤ 2 * r + 1)
+row-steps Frame r = (omega arith, omega arith)
+row-steps TopField r = (omega arith, omega arith)
+row-steps BottomField r = (omega arith, omega arith)
 
 -- ---- the test of a line, in ℕ: the component is b - 32768
 pub record Fits (size : ℕ) (l : Line) (place b : ℕ) : Type 0 where

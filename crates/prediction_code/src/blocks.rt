@@ -68,6 +68,31 @@ pub(crate) fn block_end(
     extents::join_ends(luma, cr) + 1
 }
 
+// The end again, for the one place at which the structure is no constant: what has one call site is put there whatever its size.
+pub(crate) fn field_block_end(
+    structure: Structure,
+    pitch: u32,
+    chroma_row: u16,
+    column: u16,
+    row: u16,
+    x: u32,
+    y: u32,
+) -> u64
+    requires { ⌜ (x < 65536) × (32768 ≤ 32 * column + x) × (y < 65536) × (32768 ≤ 2 * (rowsIn structure luma * row) + y) ⌝ }
+    ensures { λ r. ⌜ r ≡ blockExtent structure (record { pitch = pitch; «chroma_row» = «chroma_row» }) (record { column = column; row = row }) (record { x = subℕ x 32768; y = subℕ y 32768 }) .end ⌝ }
+{
+    let u = spans::column_from(column, x);
+    let v = spans::row_from(structure, row, y);
+    let cr_row = chroma_row as u32 + spans::last_chroma_row(structure, v, y);
+    let cr = address(pitch, 2 * spans::chroma_last(8, u, x) + 1, cr_row);
+    let luma_row = spans::last_row(structure, v);
+    if (32 <= pitch) & (luma_row < cr_row / 32 * 32) {
+        return cr + 1;
+    }
+    let luma = address(pitch, (u + 1) / 2 + 15, luma_row);
+    extents::join_ends(luma, cr) + 1
+}
+
 // What the block touches: both its ends.
 pub(crate) fn block_extent(
     structure: Structure,

@@ -10,6 +10,7 @@ mod structures;
 mod vectors;
 
 pub use blocks::block_at;
+pub use lines::field_end;
 pub use lines::first_with;
 pub use lines::floor_of;
 pub use lines::line_of;

@@ -132,6 +132,25 @@ pub fn reach_end(
     blocks::block_end(structure, pitch, chroma_row, column, row, x, y)
 }
 
+// The same, for a structure that is no constant, where it is asked for at one place alone.
+pub fn field_end(
+    structure: Structure,
+    pitch: u32,
+    chroma_row: u16,
+    column: u16,
+    row: u16,
+    word: u32,
+) -> u64
+    ensures { λ r. ⌜ r ≡ reachOf structure (record { pitch = pitch; «chroma_row» = «chroma_row» }) (record { column = column; row = row }) word .end ⌝ }
+{
+    let x = x_of(word);
+    let y = y_of(word);
+    if !starts(structure, column, row, x, y) {
+        return 0;
+    }
+    blocks::field_block_end(structure, pitch, chroma_row, column, row, x, y)
+}
+
 // The first byte of the same block, 0 where it starts before the picture.
 pub fn reach_first(structure: Structure, surface: Surface, column: u16, row: u16, word: u32) -> u64
     ensures { λ r. ⌜ r ≡ reachOf structure surface (record { column = column; row = row }) word .first ⌝ }

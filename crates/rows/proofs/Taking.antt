@@ -411,8 +411,8 @@ module _ (p q : Progress) (column due : ℕ) (f b : Extent) (before ws : List �
           let low = picture-is (λ (y : Picture). typeBits (allowedIn y .«dct_type») (wordAt ws 1) ≡ 0x4401) (x .type) in
           let permitted = picture-is (λ (y : Picture). allowedIn y .field ≡ true) (x .permitted) in
           let coding = field-coding (q .picture) permitted in
-          let top-fits = field-line (isSet (bits (wordAt ws 4) 16 16)) (wordAt ws 5) (x .top-fits) in
-          let bottom-fits = field-line (isSet (bits (wordAt ws 4) 18 18)) (wordAt ws 7) (x .bottom-fits) in
+          let top-fits = field-line (isSet (bits (wordAt ws 4) 16 16)) (wordAt ws 5) (x .blocks .first .fits) in
+          let bottom-fits = field-line (isSet (bits (wordAt ws 4) 18 18)) (wordAt ws 7) (x .blocks .second .fits) in
           let fields : usesFields a (wordAt ws 1) ≡ true = both-true (x .permitted) (eq-eqb _ 0x4401 (x .type)) in
           let one-bit = bit-2 (allowedIn (q .picture)) (wordAt ws 1) 0x4401 low refl in
           comes ((topIn ws, wordAt ws 5) ∷ (bottomIn ws, wordAt ws 7) ∷ []) [] (points-other 0x100 5 a 0x4401 type refl true fields)
@@ -421,7 +421,7 @@ module _ (p q : Progress) (column due : ℕ) (f b : Extent) (before ws : List �
           (joins-field q ws (placed-field x permitted low) before
           (record { fixed-high = x .kept .fixed-high; fixed-low = x .kept .fixed-low; skips = inl one-bit; coded = not-one 2 (omega arith) coding; previous = s .previous-is })
           top bottom low permitted coding (x .kept) (fits-forward (topIn ws) (wordAt ws 5) top-fits) (fits-forward (bottomIn ws) (wordAt ws 7) bottom-fits)))
-          (x .forward-is ∙ ap (λ (n : ℕ). max n (bottom .end)) (sym (join-end f top)) ∙ sym (join-end (joined f top) bottom)) (x .backward-is) (top-fits, (bottom-fits, tt)) tt
+          (x .blocks .second .end-is ∙ ap (λ (n : ℕ). max n (bottom .end)) (x .blocks .first .end-is ∙ sym (join-end f top)) ∙ sym (join-end (joined f top) bottom)) (x .backward-is) (top-fits, (bottom-fits, tt)) tt
 
       by : Coded p column (f .end) (b .end) ws due before f′ b′ → Comes p q column f b ws f′ b′
       by (inl x) = by-field x

@@ -1,6 +1,6 @@
 -- What the tests of one MACROBLOCK command find, before its rules are asked; its rules follow from it (proofs/Keeping.antt, proofs/Taking.antt).
 -- Proved: against the rules, by `found-comes` (proofs/Taking.antt).
-use Prim.Native.Nat.{ℕ, _+_, max}
+use Prim.Native.Nat.{ℕ, _+_, _*_, max}
 use mathlib.Core.Bool.{Bool, true, _||_}
 use mathlib.Core.List.{List}
 use mathlib.Core.Logic.{_⊎_}
@@ -60,12 +60,18 @@ reachAs k p column w = reachOf k (p .frame .surface) (placeIn p column) w
 abbrev pub reachIn : Progress → ℕ → ℕ → Extent
 reachIn p column w = reachAs structure.Frame p column w
 
--- The fields that a field prediction chooses.
+-- The field that a block of a field prediction chooses, the first's by bit 16 of word 4, the second's by bit 18, and the word of its vector: words 5 and 7.
+abbrev pub chosenIn : List ℕ → ℕ → Structure
+chosenIn ws block = fieldOf (isSet (bits (wordAt ws 4) (16 + 2 * block) (16 + 2 * block)))
+
 abbrev pub topIn : List ℕ → Structure
-topIn ws = fieldOf (isSet (bits (wordAt ws 4) 16 16))
+topIn ws = chosenIn ws 0
 
 abbrev pub bottomIn : List ℕ → Structure
-bottomIn ws = fieldOf (isSet (bits (wordAt ws 4) 18 18))
+bottomIn ws = chosenIn ws 1
+
+abbrev pub vectorWord : List ℕ → ℕ → ℕ
+vectorWord ws block = wordAt ws (5 + 2 * block)
 
 -- A word's vector keeps its lines.
 abbrev pub ForwardFits : Progress → ℕ → ℕ → Type 0
@@ -79,6 +85,20 @@ FieldFits k p column w =
 abbrev pub BackwardFits : Progress → ℕ → ℕ → Type 0
 BackwardFits p column w =
     vectorInLines structure.Frame (linesOf (p .picture) .«backward_x») (linesOf (p .picture) .«backward_y») column (p .position .row) w ≡ true
+
+module _ (p : Progress) (column : ℕ) (ws : List ℕ) where
+  -- A block of a field prediction, and both, the first before the second.
+  pub record BlockFound (block end r : ℕ) : Type 0 where
+    pub fits : FieldFits (chosenIn ws block) p column (vectorWord ws block)
+    pub end-is : r ≡ max end (reachAs (chosenIn ws block) p column (vectorWord ws block) .end)
+
+  pub record BlocksFound (f r : ℕ) : Type 0 where
+    pub between : ℕ
+    pub first : BlockFound 0 f between
+    pub second : BlockFound 1 between r
+
+  abbrev pub BlocksSoFar : ℕ → ℕ → ℕ → Type 0
+  BlocksSoFar f block end = ((block ≡ 0) × (end ≡ f)) ⊎ (((block ≡ 1) × BlockFound 0 f end) ⊎ ((block ≡ 2) × BlocksFound f end))
 
 -- Each kind: its type, the picture's, its vectors, and the ends of what is touched of both references after it.
 module _ (p : Progress) (column forward backward : ℕ) (ws : List ℕ) where
@@ -118,9 +138,7 @@ module _ (p : Progress) (column forward backward : ℕ) (ws : List ℕ) where
     pub permitted : allowedIn (p .picture) .field ≡ true
     pub flags : FlagsKept (withoutChoices (wordAt ws 4)) due (eqb (column + 1) (p .picture .grid .columns))
     pub kept : FieldKept ws
-    pub top-fits : FieldFits (topIn ws) p column (wordAt ws 5)
-    pub bottom-fits : FieldFits (bottomIn ws) p column (wordAt ws 7)
-    pub forward-is : f ≡ max (max forward (reachAs (topIn ws) p column (wordAt ws 5) .end)) (reachAs (bottomIn ws) p column (wordAt ws 7) .end)
+    pub blocks : BlocksFound p column ws forward f
     pub backward-is : b ≡ backward
 
   abbrev pub ByForward : Step → Type 0

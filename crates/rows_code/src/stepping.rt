@@ -7,9 +7,9 @@ use progress::Progress;
 use rows::Lines;
 use rows::Step;
 ghost use mathlib.Core.Path.{_≡_};
-ghost use Prim.Native.Nat.{_+_};
+ghost use Prim.Native.Nat.{_+_, _<_, _≤_};
 ghost use lib.Dec.{eqb};
-ghost use Rattle.rows.specs.Steps.{linesOf, isPredicted, typedAs, AtWord, ByForward, ByBackward, ByBoth, ByField, ByFrame, ByCoded, StepFrom};
+ghost use Rattle.rows.specs.Steps.{linesOf, isPredicted, typedAs, AtWord, BlockFound, BlocksFound, BlocksSoFar, ByForward, ByBackward, ByBoth, ByField, ByFrame, ByCoded, StepFrom};
 
 // The lines of a picture.
 pub(crate) fn lines_of(picture: Picture) -> Lines
@@ -177,6 +177,49 @@ fn judge_both(
     Step::Kept(first, second)
 }
 
+// What the first or the second block of a field prediction touches, joined to an end. 0 where its vector leaves its lines.
+fn field_block(
+    progress: Progress,
+    lines: Lines,
+    column: u16,
+    block: u8,
+    end: u64,
+    words: &[u32],
+) -> u64
+    requires { ⌜ (lines ≡ linesOf (progress .picture)) × (block < 2) ⌝ }
+    ensures { λ r. ⌜ (1 ≤ r → BlockFound progress column (now (words .entry)) block end r) ⌝ }
+{
+    let surface = progress.frame.surface;
+    let row = progress.position.row;
+    let word = headers_code::word_at(words, 5 + 2 * (block as usize));
+    let four = headers_code::word_at(words, 4);
+    let field = placement_code::field_of(fields_code::is_set(four, 16 + 2 * block));
+    if !prediction_code::vector_in_lines(field, lines.forward_x, lines.field_y, column, row, word) {
+        return 0;
+    }
+    extents::join_ends(
+        end,
+        prediction_code::field_end(field, surface.pitch, surface.chroma_row, column, row, word),
+    )
+}
+
+// Both blocks of a field prediction. They are asked for at one place, so that what they need is there once.
+fn field_blocks(progress: Progress, lines: Lines, column: u16, forward: u64, words: &[u32]) -> u64
+    requires { ⌜ lines ≡ linesOf (progress .picture) ⌝ }
+    ensures { λ r. ⌜ (1 ≤ r → BlocksFound progress column (now (words .entry)) forward r) ⌝ }
+{
+    let mut end = forward;
+    let mut block: u8 = 0;
+    while block < 2 {
+        end = field_block(progress, lines, column, block, end, words);
+        if end == 0 {
+            return 0;
+        }
+        block += 1;
+    }
+    end
+}
+
 // A macroblock that is predicted from fields, whose word 1 says so.
 fn judge_field(
     progress: Progress,
@@ -190,14 +233,8 @@ fn judge_field(
     requires { ⌜ lines ≡ linesOf (progress .picture) ⌝ }
     ensures { λ r. ⌜ ByField progress column forward backward (now (words .entry)) due r ⌝ }
 {
-    let surface = progress.frame.surface;
-    let row = progress.position.row;
     let last = is_last(column, progress.picture.grid.columns);
     let four = headers_code::word_at(words, 4);
-    let five = headers_code::word_at(words, 5);
-    let seven = headers_code::word_at(words, 7);
-    let x = lines.forward_x;
-    let y = lines.field_y;
     if !lines.allowed.field {
         return Step::Left;
     }
@@ -207,29 +244,10 @@ fn judge_field(
     if !words::field_keeps(words) {
         return Step::Left;
     }
-    let top = placement_code::field_of(fields_code::is_set(four, 16));
-    if !prediction_code::vector_in_lines(top, x, y, column, row, five) {
+    let next = field_blocks(progress, lines, column, forward, words);
+    if next == 0 {
         return Step::Left;
     }
-    let bottom = placement_code::field_of(fields_code::is_set(four, 18));
-    if !prediction_code::vector_in_lines(bottom, x, y, column, row, seven) {
-        return Step::Left;
-    }
-    let above = extents::join_ends(
-        forward,
-        prediction_code::reach_end(top, surface.pitch, surface.chroma_row, column, row, five),
-    );
-    let next = extents::join_ends(
-        above,
-        prediction_code::reach_end(
-            bottom,
-            surface.pitch,
-            surface.chroma_row,
-            column,
-            row,
-            seven,
-        ),
-    );
     Step::Kept(next, backward)
 }
 

@@ -1,49 +1,44 @@
--- `row_of`: the row of the frame at which a row of a structure stands.
-use mathlib.Core.Path.{sym, ap}
+-- `row_of`: rows of a structure counted in the frame's.
+use mathlib.Core.Path.{ap₂, _∙_, sym, subst}
+use Prim.Native.Nat.{ℕ, _+_, _*_, _≤_}
 use native.Mathlib.Omega.{arith}
-use Rattle.prediction.specs.declared.Structure.{Structure}
-use Rattle.prediction.specs.Structures.{rowOf}
+use Rattle.prediction.proofs.LineCode.{row-steps}
+use Rattle.prediction.proofs.Integers.{product-le}
 use borrow.Author.Needs.{needs}
 use Rattle.prediction_code.proofs.structures.row_of.Statement.{statement}
 use Rattle.prediction_code.proofs.structures.row_of.Tie as tie
+use Rattle.prediction_code.proofs.structures.row_of.Reads as reads
+use Rattle.prediction_code.proofs.structures.row_of.Lts as lts
+use Rattle.prediction_code.proofs.structures.parity_of.Reads as parity-of-reads
+use Rattle.prediction_code.proofs.structures.step_of.Reads as step-of-reads
 
-enum-told : tie.Need-enum-told
-enum-told c = search needs
+-- src/structures.rt:52:5
+step-of-requires : tie.Need-step-of-requires
+step-of-requires c κs = search needs
 
-enum-told-2 : tie.Need-enum-told-2
-enum-told-2 c = search needs
-
+-- src/structures.rt:52:5
 mul-result : tie.Need-mul-result
-mul-result c = search needs
+mul-result c =
+    let small = product-le {b = c .before .args .row} 2 2097151 (c .step-of .ensures .1) (omega (arith, c .before .pre)) in
+    omega (arith, small)
 
-enum-told-3 : tie.Need-enum-told-3
-enum-told-3 c = search needs
+-- src/structures.rt:52:32
+parity-of-requires : tie.Need-parity-of-requires
+parity-of-requires c κs = search needs
 
-mul-result-2 : tie.Need-mul-result-2
-mul-result-2 c = search needs
-
+-- src/structures.rt:52:5
 add-result : tie.Need-add-result
-add-result c = search needs
+add-result c =
+    let small = product-le {b = c .before .before .args .row} 2 2097151 (c .before .step-of .ensures .1) (omega (arith, c .before .before .pre)) in
+    omega (arith, small, c .parity-of .ensures .1)
 
+-- src/structures.rt:48:1
 returns : tie.Need-returns
-returns c = search needs
-
-returns-2 : tie.Need-returns-2
-returns-2 c = (ap (λ (k : Structure). rowOf k (c .before .before .args .row)) (sym (c .enum-told2 .given .1)), omega arith)
-
-returns-3 : tie.Need-returns-3
-returns-3 c = (ap (λ (k : Structure). rowOf k (c .before .before .args .row)) (sym (c .enum-told3 .given .1)), omega arith)
+returns c =
+    let a = c .before .before .args in
+    let stands = ap₂ (λ (m n : ℕ). m * a .row + n) (c .before .step-of .ensures .0) (c .parity-of .ensures .0) ∙ row-steps (a .structure) (a .row) .0 in
+    (stands, subst (λ (n : ℕ). n ≤ 2 * a .row + 1) (sym stands) (row-steps (a .structure) (a .row) .1))
 
 pub row-of-spec : {M : Type 1} → statement M
 row-of-spec =
-    tie.close
-    (tie.spec
-    enum-told
-    enum-told-2
-    mul-result
-    enum-told-3
-    mul-result-2
-    add-result
-    returns
-    returns-2
-    returns-3)
+    tie.close (tie.spec step-of-requires mul-result parity-of-requires add-result returns)
