@@ -7,32 +7,23 @@ use Rattle.prediction.proofs.Integers.{product-le}
 use borrow.Author.Needs.{needs}
 use Rattle.prediction_code.proofs.structures.row_of.Statement.{statement}
 use Rattle.prediction_code.proofs.structures.row_of.Tie as tie
-use Rattle.prediction_code.proofs.structures.row_of.Reads as reads
-use Rattle.prediction_code.proofs.structures.row_of.Lts as lts
-use Rattle.prediction_code.proofs.structures.parity_of.Reads as parity-of-reads
-use Rattle.prediction_code.proofs.structures.step_of.Reads as step-of-reads
 
--- src/structures.rt:52:5
 step-of-requires : tie.Need-step-of-requires
 step-of-requires c κs = search needs
 
--- src/structures.rt:52:5
 mul-result : tie.Need-mul-result
 mul-result c =
     let small = product-le {b = c .before .args .row} 2 2097151 (c .step-of .ensures .1) (omega (arith, c .before .pre)) in
     omega (arith, small)
 
--- src/structures.rt:52:32
 parity-of-requires : tie.Need-parity-of-requires
 parity-of-requires c κs = search needs
 
--- src/structures.rt:52:5
 add-result : tie.Need-add-result
 add-result c =
     let small = product-le {b = c .before .before .args .row} 2 2097151 (c .before .step-of .ensures .1) (omega (arith, c .before .before .pre)) in
     omega (arith, small, c .parity-of .ensures .1)
 
--- src/structures.rt:48:1
 returns : tie.Need-returns
 returns c =
     let a = c .before .before .args in

@@ -10,19 +10,11 @@ use Rattle.placement.specs.Blocks.{fieldOf}
 use Rattle.prediction.specs.Lines.{vectorInLines}
 use Rattle.prediction.specs.declared.Structure.{Structure}
 use Rattle.prediction.proofs.ExtentLaws.{join-end}
-use Rattle.rows.specs.Steps.{linesOf, reachAs, chosenIn, vectorWord, FieldFits}
+use Rattle.rows.specs.Steps.{linesOf, reachAs, vectorWord, FieldFits}
 use Rattle.rows.specs.declared.Lines.{Lines}
 use borrow.Author.Needs.{needs}
 use Rattle.rows_code.proofs.stepping.field_block.Statement.{statement}
 use Rattle.rows_code.proofs.stepping.field_block.Tie as tie
-use Rattle.rows_code.proofs.stepping.field_block.Reads as reads
-use Rattle.rows_code.proofs.stepping.field_block.Lts as lts
-use Rattle.fields_code.proofs.is_set.Reads as is-set-reads
-use Rattle.headers_code.proofs.word_at.Reads as word-at-reads
-use Rattle.placement_code.proofs.field_of.Reads as field-of-reads
-use Rattle.prediction_code.proofs.extents.join_ends.Reads as join-ends-reads
-use Rattle.prediction_code.proofs.field_end.Reads as field-end-reads
-use Rattle.prediction_code.proofs.vector_in_lines.Reads as vector-in-lines-reads
 
 -- a vector keeps its lines, by the test
 fits : (p : Progress) (lines : Lines) (column row word : ℕ) {w : ℕ} {k m : Structure} {t : Bool} → lines ≡ linesOf (p .picture) → row ≡ p .position .row → k ≡ m → w ≡ word

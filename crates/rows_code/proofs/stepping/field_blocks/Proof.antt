@@ -7,9 +7,6 @@ use Rattle.rows.specs.Steps.{BlocksSoFar}
 use Rattle.rows_code.proofs.Finding.{blocks-on, both-blocks}
 use Rattle.rows_code.proofs.stepping.field_blocks.Statement.{statement}
 use Rattle.rows_code.proofs.stepping.field_blocks.Tie as tie
-use Rattle.rows_code.proofs.stepping.field_blocks.Reads as reads
-use Rattle.rows_code.proofs.stepping.field_blocks.Lts as lts
-use Rattle.rows_code.proofs.stepping.field_block.Reads as field-block-reads
 
 abbrev Inv-loop : tie.InvT-loop
 Inv-loop progress lines column forward words end₀ block₀ end block = BlocksSoFar progress column words forward block end

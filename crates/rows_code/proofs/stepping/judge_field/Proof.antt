@@ -9,14 +9,6 @@ use Rattle.rows_code.proofs.Finding.{flags-at}
 use borrow.Author.Needs.{needs}
 use Rattle.rows_code.proofs.stepping.judge_field.Statement.{statement}
 use Rattle.rows_code.proofs.stepping.judge_field.Tie as tie
-use Rattle.rows_code.proofs.stepping.judge_field.Reads as reads
-use Rattle.rows_code.proofs.stepping.judge_field.Lts as lts
-use Rattle.headers_code.proofs.word_at.Reads as word-at-reads
-use Rattle.rows_code.proofs.stepping.field_blocks.Reads as field-blocks-reads
-use Rattle.rows_code.proofs.stepping.is_last.Reads as is-last-reads
-use Rattle.rows_code.proofs.words.field_keeps.Reads as field-keeps-reads
-use Rattle.rows_code.proofs.words.flags_keep.Reads as flags-keep-reads
-use Rattle.rows_code.proofs.words.without_choices.Reads as without-choices-reads
 
 is-last-requires : tie.Need-is-last-requires
 is-last-requires c κs = search needs
