@@ -15,7 +15,7 @@ use Rattle.prediction.specs.Vectors.{vectorOf}
 use Rattle.prediction.specs.Spans.{firstOf, halved}
 use Rattle.prediction.specs.Extents.{emptyExtent}
 use Rattle.prediction.specs.Addresses.{luma, address}
-use Rattle.prediction.specs.Structures.{halfRows, rowsIn, stepOf, parityOf, rowOf}
+use Rattle.prediction.specs.Structures.{halfRows, rowsIn, rowOf}
 use Rattle.prediction.specs.Blocks.{blockExtent, startOf, lastOf}
 use Rattle.prediction.specs.Lines.{limitOf, lineOf, inLine, reachOf}
 use Rattle.prediction.specs.declared.Structure.{Structure}
@@ -31,7 +31,7 @@ use Rattle.prediction.proofs.TwosComplement.{pair}
 use Rattle.prediction.proofs.BlockBytes.{half-pos, rows-pos, block-is}
 
 -- ---- rows of the frame, without a choice
-pub row-steps : (k : Structure) (r : ℕ) → (stepOf k * r + parityOf k ≡ rowOf k r) × (rowOf k r ≤ 2 * r + 1)
+pub row-steps : (k : Structure) (r : ℕ) → ((rowOf k 1 - rowOf k 0) * r + rowOf k 0 ≡ rowOf k r) × (rowOf k r ≤ 2 * r + 1)
 row-steps Frame r = (omega arith, omega arith)
 row-steps TopField r = (omega arith, omega arith)
 row-steps BottomField r = (omega arith, omega arith)

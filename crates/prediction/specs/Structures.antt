@@ -22,17 +22,6 @@ rowsIn k luma = 2 * halfRows k
 rowsIn k cb = halfRows k
 rowsIn k cr = halfRows k
 
--- How many rows of the frame a row counts, and at which one the first stands; for the code alone, by `row-steps` (proofs/LineCode.antt).
-abbrev pub stepOf : Structure → ℕ
-stepOf Frame = 1
-stepOf TopField = 2
-stepOf BottomField = 2
-
-abbrev pub parityOf : Structure → ℕ
-parityOf Frame = 0
-parityOf TopField = 0
-parityOf BottomField = 1
-
 -- The row of the frame. "Reference row is twice the field row plus the chosen field": top is 0, bottom 1.
 abbrev pub rowOf : Structure → ℕ → ℕ
 rowOf Frame r = r

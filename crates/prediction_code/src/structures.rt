@@ -1,9 +1,9 @@
 // Frames and fields.
 use prediction::Structure;
 ghost use mathlib.Core.Path.{_≡_};
-ghost use Prim.Native.Nat.{_+_, _*_, _≤_, _<_};
+ghost use Prim.Native.Nat.{_+_, _*_, _-_, _≤_, _<_};
 ghost use Rattle.prediction.specs.Addresses.{luma};
-ghost use Rattle.prediction.specs.Structures.{halfRows, rowsIn, stepOf, parityOf, rowOf};
+ghost use Rattle.prediction.specs.Structures.{halfRows, rowsIn, rowOf};
 
 // The chroma rows of a block.
 pub(crate) fn half_rows(structure: Structure) -> u8
@@ -23,9 +23,9 @@ pub(crate) fn luma_rows(structure: Structure) -> u8
     2 * half_rows(structure)
 }
 
-// A row of the structure counts so many of the frame, and its first one stands at this one of the frame.
+// From a row of the structure to the next it is so many of the frame, and its first row stands at this one of the frame.
 fn step_of(structure: Structure) -> u32
-    ensures { λ r. ⌜ (r ≡ stepOf structure) × (r ≤ 2) ⌝ }
+    ensures { λ r. ⌜ (r ≡ rowOf structure 1 - rowOf structure 0) × (r ≤ 2) ⌝ }
 {
     match structure {
         Structure::Frame => 1,
@@ -35,7 +35,7 @@ fn step_of(structure: Structure) -> u32
 }
 
 fn parity_of(structure: Structure) -> u32
-    ensures { λ r. ⌜ (r ≡ parityOf structure) × (r ≤ 1) ⌝ }
+    ensures { λ r. ⌜ (r ≡ rowOf structure 0) × (r ≤ 1) ⌝ }
 {
     match structure {
         Structure::Frame => 0,

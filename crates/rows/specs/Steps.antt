@@ -97,9 +97,6 @@ module _ (p : Progress) (column : ℕ) (ws : List ℕ) where
     pub first : BlockFound 0 f between
     pub second : BlockFound 1 between r
 
-  abbrev pub BlocksSoFar : ℕ → ℕ → ℕ → Type 0
-  BlocksSoFar f block end = ((block ≡ 0) × (end ≡ f)) ⊎ (((block ≡ 1) × BlockFound 0 f end) ⊎ ((block ≡ 2) × BlocksFound f end))
-
 -- Each kind: its type, the picture's, its vectors, and the ends of what is touched of both references after it.
 module _ (p : Progress) (column forward backward : ℕ) (ws : List ℕ) where
   pub record ForwardFound (f b : ℕ) : Type 0 where

@@ -1,14 +1,14 @@
 -- What the tests of a command find, put together by what it came to.
 use mathlib.Core.Bool.{Bool}
 use mathlib.Core.List.{List}
-use mathlib.Core.Logic.{inl, inr}
+use mathlib.Core.Logic.{_⊎_, inl, inr}
 use mathlib.Core.Path.{_≡_, ap, subst, subst₂}
 use Prim.Native.Nat.{ℕ, _+_, _≤_, _<_}
 use native.Mathlib.Omega.{arith}
 use Rattle.headers.specs.Headers.{macroblockHeader}
 use Rattle.headers.specs.Words.{wordAt}
 use Rattle.progress.specs.declared.Progress.{Progress}
-use Rattle.rows.specs.Steps.{BlockFound, BlocksFound, BlocksSoFar, AtWord, typedAs, typeIn, ByForward, ByBackward, ByBoth, ByField, ByFrame, Flagged, ByCoded, StepFrom}
+use Rattle.rows.specs.Steps.{BlockFound, BlocksFound, AtWord, typedAs, typeIn, ByForward, ByBackward, ByBoth, ByField, ByFrame, Flagged, ByCoded, StepFrom}
 use Rattle.rows.specs.Words.{FlagsKept, InterKept}
 use Rattle.rows.specs.declared.Step.{Step}
 use Rattle.rows.specs.declared.Step.the-variants.{Kept, Left}
@@ -47,14 +47,17 @@ flags-at {four} {four′} {due} k e f = subst₂ (λ (x : ℕ) (y : Bool). Flags
 pub at-word : {two two′ column row : ℕ} → AtWord two column row → two ≡ two′ → AtWord two′ column row
 at-word {two} {two′} {column} {row} h e = subst (λ (x : ℕ). AtWord x column row) e h
 
--- the blocks of a field prediction, one after the other
-module _ (p : Progress) (column : ℕ) (ws : List ℕ) (f block end : ℕ) where
-  pub blocks-on : (r : ℕ) → block < 2 → BlocksSoFar p column ws f block end → BlockFound p column ws block end r → BlocksSoFar p column ws f (block + 1) r
-  blocks-on r h (inl (z, e)) x = inr (inl (ap (λ (n : ℕ). n + 1) z, subst₂ (λ (m n : ℕ). BlockFound p column ws m n r) z e x))
-  blocks-on r h (inr (inl (z, y))) x = inr (inr (ap (λ (n : ℕ). n + 1) z, record { between = end; first = y; second = subst (λ (m : ℕ). BlockFound p column ws m end r) z x }))
-  blocks-on r h (inr (inr (z, y))) x = absurd (omega arith)
+-- the blocks of a field prediction, one after the other: what has been found before block 0, 1 or 2
+module _ (p : Progress) (column : ℕ) (ws : List ℕ) (f : ℕ) where
+  abbrev pub BlocksSoFar : ℕ → ℕ → Type 0
+  BlocksSoFar block end = ((block ≡ 0) × (end ≡ f)) ⊎ (((block ≡ 1) × BlockFound p column ws 0 f end) ⊎ ((block ≡ 2) × BlocksFound p column ws f end))
 
-  pub both-blocks : 2 ≤ block → BlocksSoFar p column ws f block end → BlocksFound p column ws f end
-  both-blocks h (inl (z, e)) = absurd (omega arith)
-  both-blocks h (inr (inl (z, y))) = absurd (omega arith)
-  both-blocks h (inr (inr (z, y))) = y
+  pub blocks-on : (block end r : ℕ) → block < 2 → BlocksSoFar block end → BlockFound p column ws block end r → BlocksSoFar (block + 1) r
+  blocks-on block end r h (inl (z, e)) x = inr (inl (ap (λ (n : ℕ). n + 1) z, subst₂ (λ (m n : ℕ). BlockFound p column ws m n r) z e x))
+  blocks-on block end r h (inr (inl (z, y))) x = inr (inr (ap (λ (n : ℕ). n + 1) z, record { between = end; first = y; second = subst (λ (m : ℕ). BlockFound p column ws m end r) z x }))
+  blocks-on block end r h (inr (inr (z, y))) x = absurd (omega arith)
+
+  pub both-blocks : (block end : ℕ) → 2 ≤ block → BlocksSoFar block end → BlocksFound p column ws f end
+  both-blocks block end h (inl (z, e)) = absurd (omega arith)
+  both-blocks block end h (inr (inl (z, y))) = absurd (omega arith)
+  both-blocks block end h (inr (inr (z, y))) = y

@@ -9,7 +9,7 @@ use rows::Step;
 ghost use mathlib.Core.Path.{_≡_};
 ghost use Prim.Native.Nat.{_+_, _<_, _≤_};
 ghost use lib.Dec.{eqb};
-ghost use Rattle.rows.specs.Steps.{linesOf, isPredicted, typedAs, AtWord, BlockFound, BlocksFound, BlocksSoFar, ByForward, ByBackward, ByBoth, ByField, ByFrame, ByCoded, StepFrom};
+ghost use Rattle.rows.specs.Steps.{linesOf, isPredicted, typedAs, AtWord, BlockFound, BlocksFound, ByForward, ByBackward, ByBoth, ByField, ByFrame, ByCoded, StepFrom};
 
 // The lines of a picture.
 pub(crate) fn lines_of(picture: Picture) -> Lines

@@ -50,6 +50,14 @@ impl Table {
     pub fn passes(&mut self, name: &str, batch: &Batch) {
         self.answer(name, batch.words(), (0, 0));
     }
+
+    /// Passes where the number due is 0, else is refused with it there.
+    pub fn due(&mut self, name: &str, batch: &Batch, number: u8, command: usize, word: usize) {
+        match number {
+            0 => self.passes(name, batch),
+            _ => self.refused(name, batch, number, command, word),
+        }
+    }
 }
 
 /// Every part of the table.

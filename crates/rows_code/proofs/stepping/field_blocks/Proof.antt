@@ -3,8 +3,7 @@ use mathlib.Core.Logic.{inl}
 use mathlib.Core.Path.{refl}
 use Prim.Native.Nat.{_-_}
 use native.Mathlib.Omega.{arith}
-use Rattle.rows.specs.Steps.{BlocksSoFar}
-use Rattle.rows_code.proofs.Finding.{blocks-on, both-blocks}
+use Rattle.rows_code.proofs.Finding.{BlocksSoFar, blocks-on, both-blocks}
 use Rattle.rows_code.proofs.stepping.field_blocks.Statement.{statement}
 use Rattle.rows_code.proofs.stepping.field_blocks.Tie as tie
 
