@@ -40,13 +40,19 @@ def flat_files(root):
 
 
 def declared_in(text):
-    """The names that a file declares, at its margin and as members of a record or a data type."""
-    names, members, inside = set(), set(), False
+    """The names that a file declares, at its margin, in modules with parameters and as members of a record or a data type."""
+    names, members, inside, module = set(), set(), False, False
     for line in text.split('\n'):
         if line.startswith('--') or not line.strip():
             continue
+        if module and re.match(r'  \S', line):
+            m = DECLARED.match(line[2:])
+            if m and m.group(1) not in WORDS:
+                names.add(m.group(1))
+            continue
         if not line[0].isspace():
             inside = False
+            module = line.startswith('module ')
             m = DECLARED.match(line)
             if m and m.group(1) not in WORDS:
                 names.add(m.group(1))
@@ -116,14 +122,15 @@ def main(argv):
         new = snake(x)
         if new != x:
             table[x] = new
-    # A law whose new name is a definition's in a file that has both gets _lem, as the library's laws do.
+    # A law whose new name is another thing's in a file that has both gets _lem, as the library's laws do.
     together = {}
     for x in table:
         together.setdefault(table[x], []).append(x)
     files = {f: {t.group(0) for t in TOKEN.finditer(f.read_text())} for f in sorted((root / 'crates').rglob('*.antt')) if 'out' not in f.relative_to(root).parts}
     for new, xs in together.items():
         laws = [x for x in xs if '-' in x and x in names]
-        if len(xs) > 1 and laws and any(len(here & set(xs)) > 1 for here in files.values()):
+        xs = xs + [new]
+        if laws and any(len(here & set(xs)) > 1 for here in files.values()):
             for x in laws:
                 table[x] = new + '_lem'
     if only_names:

@@ -17,8 +17,8 @@ module _ (fault : Answer) (needed : ℕ) (new room : List ℕ) where
   refuses n p e = let a : then_room fault needed room ≡ Refused n p = ap (λ (f : Answer). next f (room_for needed room)) e in (sym a, sym (ap (λ (x : Answer). lent_after x new room) a))
 
   -- the room is too small
-  pub lacks-room : fault ≡ Accepted → length room < needed → (Refused 14 needed ≡ then_room fault needed room) × (room ≡ lent_after (then_room fault needed room) new room)
-  lacks-room e h =
+  pub lacks_room : fault ≡ Accepted → length room < needed → (Refused 14 needed ≡ then_room fault needed room) × (room ≡ lent_after (then_room fault needed room) new room)
+  lacks_room e h =
       let a : then_room fault needed room ≡ Refused 14 needed = ap (λ (f : Answer). next f (room_for needed room)) e ∙ simp (lt-ltb (length room) needed h) in
       (sym a, sym (ap (λ (x : Answer). lent_after x new room) a))
 

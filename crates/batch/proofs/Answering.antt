@@ -22,7 +22,7 @@ use Rattle.batch.specs.Reports.{report_number, report_place, ending, concluding,
 use Rattle.batch.specs.declared.Lengths.{Lengths}
 use Rattle.batch.specs.declared.Walked.{Walked}
 use Rattle.batch.specs.declared.Walked.TheVariants.{Stopped, Going}
-use Rattle.batch.proofs.WalkLaws.{walk-next}
+use Rattle.batch.proofs.WalkLaws.{walk_next}
 
 -- A header that is refused by itself is refused so by the table of its command.
 pub header_ruled : (h : Header) (p : Progress) (ws : List ℕ) (n word : ℕ) → header_answer 0 h ≡ Refused n word → judged (rules_of h p ws) ≡ Refused n word
@@ -54,7 +54,7 @@ verdict_reported l ws n place e = by (verdict_of ws) e
 -- Words that are not a whole command, before END: refused as what they begin with says.
 pub next_answered : (at : ℕ) (p : Progress) (ws : List ℕ) (n place : ℕ) → p.stage.ended ≡ false → at + length ws ≤ limit
     → next_answer at (at + length ws) (next_in ws) ≡ Refused n place → verdict_answer (ending (foldl step (going at p []) ws)) ≡ Refused n place
-next_answered at p ws n place e l h = ap (λ (w : Walk). verdict_answer (ending w)) (walk-next at p e ws l) ∙ by (next_in ws) h
+next_answered at p ws n place e l h = ap (λ (w : Walk). verdict_answer (ending w)) (walk_next at p e ws l) ∙ by (next_in ws) h
   where
     by : (c : NextCommand) → next_answer at (at + length ws) c ≡ Refused n place
         → verdict_answer (ending (by_next (stopped 2 at) (going at p ws) (λ h n. foldl step (after at (at + n) (judge h p (take n ws))) (drop n ws)) c)) ≡ Refused n place

@@ -19,7 +19,7 @@ use Rattle.batch.specs.declared.Lengths.{Lengths}
 use Rattle.batch.specs.declared.Report.{Report}
 use Rattle.batch.specs.declared.Report.TheVariants.{Accepted, Short}
 use Rattle.batch.specs.declared.Reported.{Reported}
-use Rattle.batch.proofs.Exactness.{touched-exact}
+use Rattle.batch.proofs.Exactness.{touched_exact}
 use Rattle.batch.proofs.Measuring.{outcome}
 use Rattle.batch.proofs.Numbers.{verdict_numbers}
 use Rattle.batch.proofs.Runs.{gone_through}
@@ -109,8 +109,8 @@ module _ (ws : List ℕ) (v : Reported) (Room : Type 0) (settle : Report → Rep
   first b = nth (length buffers + buffer_number b) ∙ (value_places v b).1
 
   -- every buffer is long enough, and nothing else is refused
-  all-long : AllEnough (reading_of r) l → r ≡ settle (Accepted v)
-  all-long h = by (outcome v l)
+  all_long : AllEnough (reading_of r) l → r ≡ settle (Accepted v)
+  all_long h = by (outcome v l)
     where
       by : Outcome v l → r ≡ settle (Accepted v)
       by (enough all m) = is ∙ ap settle m
@@ -120,7 +120,7 @@ module _ (ws : List ℕ) (v : Reported) (Room : Type 0) (settle : Report → Rep
   passing room h = by (settles.accepts v)
     where
       by : Accepts Room v (settle (Accepted v)) → report_number r ≡ 0
-      by (inl s) = ap report_number (all-long h ∙ s)
+      by (inl s) = ap report_number (all_long h ∙ s)
       by (inr s) = absurd (s.0 room)
 
   only : report_number r ≡ 0 → AllEnough (reading_of r) l
@@ -158,7 +158,7 @@ demand_by ws Room settle settles Answers answers l₀ kept =
       one_less = λ l r a b byte t h passed. absurd (let n = (names ws v Room settle settles l r (is l r a) b (omega (arith, h))).is_13 in omega (arith, n, passed));
       lowest_named = λ l r a. names ws v Room settle settles l r (is l r a);
       same_reported = λ l k r q a c. reports ws v Room settle settles l r (is l r a) ∙ sym (reports ws v Room settle settles k q (is k q c));
-      same_answer = λ l k r q a c h i. all-long ws v Room settle settles l r (is l r a) h ∙ sym (all-long ws v Room settle settles k q (is k q c) i);
+      same_answer = λ l k r q a c h i. all_long ws v Room settle settles l r (is l r a) h ∙ sym (all_long ws v Room settle settles k q (is k q c) i);
     }
   where
     ended : (p : Progress) × (verdict_of ws ≡ Next p)
@@ -171,7 +171,7 @@ demand_by ws Room settle settles Answers answers l₀ kept =
     is l r a = answers l r a ∙ ap settle (verdict_measured ws ended.0 ended.1 l)
 
     exactly : (b : Buffer) → Exact (Touched ws b) (extent_of b v.extents)
-    exactly b = let w = gone_through ws ended.0 ended.1 in touched-exact b ws w.0 ended.0 w.1 w.2
+    exactly b = let w = gone_through ws ended.0 ended.1 in touched_exact b ws w.0 ended.0 w.1 w.2
 
 -- Demand 3 of what is made of each answer, where it is read as the answer is.
 pub demand_through : {A B : Type 0} (read : A → Reading) (seen : B → Reading) (made : A → B) → ((a : A) → seen (made a) ≡ read a)

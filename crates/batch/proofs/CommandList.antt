@@ -65,38 +65,38 @@ counted_once false now false n h e l = let k : 0 + n ≤ 1 = rw e at l in omega 
 
 module _ {A : Type 0} (o : Opcode) (says : List ℕ → A) (said : Progress → A) (come : Progress → Bool) (once : Once o says said come) where
   -- what is said is what the list's command says
-  pub run-said : (p : Progress) (cs : List Command) (q : Progress) → Run p cs q → said q ≡ last_said o says (said p) cs
+  pub run_said : (p : Progress) (cs : List Command) (q : Progress) → Run p cs q → said q ≡ last_said o says (said p) cs
   unfolding last_said
-  run-said p [] q r = ap said (sym r)
-  run-said p (c ∷ cs) q r =
+  run_said p [] q r = ap said (sym r)
+  run_said p (c ∷ cs) q r =
       let n = goes_on c.header p c.words r.0 r.1 in
-      run-said r.0 cs q r.2
+      run_said r.0 cs q r.2
       ∙ ap (λ (x : A). last_said o says x cs) (ap said n.1 ∙ once.said_after c.header p c.words)
 
   -- the list has at most one
-  pub run-once : (p : Progress) (cs : List Command) (q : Progress) → Run p cs q → flag (come p) + how_many o cs ≤ 1
-  run-once p [] q r = at_most (come p)
-  run-once p (c ∷ cs) q r =
+  pub run_once : (p : Progress) (cs : List Command) (q : Progress) → Run p cs q → flag (come p) + how_many o cs ≤ 1
+  run_once p [] q r = at_most (come p)
+  run_once p (c ∷ cs) q r =
       let n = goes_on c.header p c.words r.0 r.1 in
       counted_once (come p) (come r.0) (begins o c.header) (how_many o cs)
       (once.not_again c.header p c.words n.0)
       (ap come n.1 ∙ once.come_after c.header p c.words)
-      (run-once r.0 cs q r.2)
+      (run_once r.0 cs q r.2)
 
   -- once it has come, what is said stays
-  pub said-kept : (p : Progress) (cs : List Command) (q : Progress) → Run p cs q → come p ≡ true → said q ≡ said p
-  said-kept p [] q r s = ap said (sym r)
-  said-kept p (c ∷ cs) q r s =
+  pub said_kept : (p : Progress) (cs : List Command) (q : Progress) → Run p cs q → come p ≡ true → said q ≡ said p
+  said_kept p [] q r s = ap said (sym r)
+  said_kept p (c ∷ cs) q r s =
       let n = goes_on c.header p c.words r.0 r.1 in
       let b = once.not_again c.header p c.words n.0 s in
-      said-kept r.0 cs q r.2 (ap come n.1 ∙ once.come_after c.header p c.words ∙ simp (b, s))
+      said_kept r.0 cs q r.2 (ap come n.1 ∙ once.come_after c.header p c.words ∙ simp (b, s))
       ∙ ap said n.1 ∙ once.said_after c.header p c.words ∙ simp b
 
 pub frame_kept : (p : Progress) (cs : List Command) (q : Progress) → Run p cs q → p.stage.surfaced ≡ true → q.frame ≡ p.frame
-frame_kept = said-kept Surface surface_of (λ p. p.frame) (λ p. p.stage.surfaced) surfaces_once
+frame_kept = said_kept Surface surface_of (λ p. p.frame) (λ p. p.stage.surfaced) surfaces_once
 
 pub picture_kept : (p : Progress) (cs : List Command) (q : Progress) → Run p cs q → p.stage.pictured ≡ true → q.picture ≡ p.picture
-picture_kept = said-kept Picture picture_of (λ p. p.picture) (λ p. p.stage.pictured) pictures_once
+picture_kept = said_kept Picture picture_of (λ p. p.picture) (λ p. p.stage.pictured) pictures_once
 
 -- Every progress on the way is sound, and the count is that of the list's MACROBLOCK commands.
 pub next_sound : (p : Progress) (c : Command) (t : Progress) → judge c.header p c.words ≡ Next t → Sound p
@@ -156,15 +156,15 @@ listed ws at p g e =
     let cs = commands_of ws in
     let none = nothing_yet in
     let count : have_come p ≡ length (macroblocks_in cs) = run_count fresh cs p r fresh_sound ∙ ap (λ (n : ℕ). n + length (macroblocks_in cs)) none ∙ zero-add (length (macroblocks_in cs)) in
-    let picture = run-said Picture picture_of (λ p. p.picture) (λ p. p.stage.pictured) pictures_once fresh cs p r in
+    let picture = run_said Picture picture_of (λ p. p.picture) (λ p. p.stage.pictured) pictures_once fresh cs p r in
     let order = rw (none, picture) at (run_order fresh cs p r fresh_sound) in
     record {
       count = count;
       order = λ k l. rw (zero-add k) at (in_order_at (batch_picture ws).grid.columns 0 (macroblocks_in cs) k order l);
-      frame = run-said Surface surface_of (λ p. p.frame) (λ p. p.stage.surfaced) surfaces_once fresh cs p r;
+      frame = run_said Surface surface_of (λ p. p.frame) (λ p. p.stage.surfaced) surfaces_once fresh cs p r;
       picture = picture;
-      surfaces = let h = run-once Surface surface_of (λ p. p.frame) (λ p. p.stage.surfaced) surfaces_once fresh cs p r in within-one (flag fresh.stage.surfaced) (how_many Surface cs) h;
-      pictures = let h = run-once Picture picture_of (λ p. p.picture) (λ p. p.stage.pictured) pictures_once fresh cs p r in within-one (flag fresh.stage.pictured) (how_many Picture cs) h;
+      surfaces = let h = run_once Surface surface_of (λ p. p.frame) (λ p. p.stage.surfaced) surfaces_once fresh cs p r in within-one (flag fresh.stage.surfaced) (how_many Surface cs) h;
+      pictures = let h = run_once Picture picture_of (λ p. p.picture) (λ p. p.stage.pictured) pictures_once fresh cs p r in within-one (flag fresh.stage.pictured) (how_many Picture cs) h;
       full = λ t. sym count ∙ all_come p (run_sound fresh cs p r fresh_sound) t ∙ ap (λ x. x.grid.rows * x.grid.columns) picture;
     }
   where

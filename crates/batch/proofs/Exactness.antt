@@ -47,10 +47,10 @@ module _ (b : Buffer) where
   From s w j (m ∷ ms) byte = By s (position_in w j) m byte ⊎ From s w (j + 1) ms byte
 
   -- a MACROBLOCK command of a run
-  macroblock-exact : (p : Progress) (c : Command) (t : Progress) → judge c.header p c.words ≡ Next t → Sound p → begins Macroblock c.header ≡ true
+  macroblock_exact : (p : Progress) (c : Command) (t : Progress) → judge c.header p c.words ≡ Next t → Sound p → begins Macroblock c.header ≡ true
       → {Before : ℕ → Type 0} → Exact Before (extent_of b p.extents)
       → (p.stage.pictured ≡ true) × Exact (λ (byte : ℕ). Before byte ⊎ By p.frame.surface (position_in p.picture.grid.columns (have_come p)) c.words byte) (extent_of b t.extents)
-  macroblock-exact p c t j s e {Before} before =
+  macroblock_exact p c t j s e {Before} before =
       let n = goes_on c.header p c.words t j in
       let a = macroblock_rules_lem c.header p c.words e n.0 in
       let pictured = s.group_pictured (in_group p c.words a) in
@@ -64,18 +64,18 @@ module _ (b : Buffer) where
         subst (λ (x : Progress). Exact (λ (byte : ℕ). Before byte ⊎ By p.frame.surface (position_in p.picture.grid.columns (have_come p)) c.words byte) (extent_of b x.extents)) same moved,
       )
 
-  run-exact : (p : Progress) (cs : List Command) (q : Progress) → Run p cs q → Sound p → {Before : ℕ → Type 0} → Exact Before (extent_of b p.extents)
+  run_exact : (p : Progress) (cs : List Command) (q : Progress) → Run p cs q → Sound p → {Before : ℕ → Type 0} → Exact Before (extent_of b p.extents)
       → Exact (λ (byte : ℕ). Before byte ⊎ From q.frame.surface q.picture.grid.columns (have_come p) (macroblocks_in cs) byte) (extent_of b q.extents)
   unfolding macroblocks_in
-  run-exact p [] q r s {Before} before =
+  run_exact p [] q r s {Before} before =
       rw (sym r) (exact_same {Q = λ (byte : ℕ). Before byte ⊎ ⊥} (λ byte h. inl h) only before)
     where
       only : (byte : ℕ) → Before byte ⊎ ⊥ → Before byte
       only byte (inl h) = h
       only byte (inr h) = absurd h
-  run-exact p (c ∷ cs) q r s {Before} before =
+  run_exact p (c ∷ cs) q r s {Before} before =
       let n = next_sound p c r.0 r.1 s in
-      by (begins Macroblock c.header) refl n.1 (λ B. run-exact r.0 cs q r.2 n.0 {Before = B})
+      by (begins Macroblock c.header) refl n.1 (λ B. run_exact r.0 cs q r.2 n.0 {Before = B})
     where
       S : Surface
       S = q.frame.surface
@@ -87,7 +87,7 @@ module _ (b : Buffer) where
           → ((B : ℕ → Type 0) → Exact B (extent_of b r.0.extents) → Exact (λ (byte : ℕ). B byte ⊎ From S w (have_come r.0) (macroblocks_in cs) byte) (extent_of b q.extents))
           → Exact (λ (byte : ℕ). Before byte ⊎ From S w (have_come p) (cond t (c.words ∷ macroblocks_in cs) (macroblocks_in cs)) byte) (extent_of b q.extents)
       by true e k rest =
-          let m = macroblock-exact p c r.0 r.1 s e before in
+          let m = macroblock_exact p c r.0 r.1 s e before in
           let frame = frame_kept p (c ∷ cs) q r (s.pictured_surfaced m.0) in
           let picture = picture_kept p (c ∷ cs) q r m.0 in
           let one : Exact (λ (byte : ℕ). Before byte ⊎ By S (position_in w (have_come p)) c.words byte) (extent_of b r.0.extents) = rw (frame, picture) m.1 in
@@ -110,20 +110,20 @@ module _ (b : Buffer) where
           rw (k ∙ add-zero (have_come p)) at (rest Before (rw same before))
 
   -- the k-th of the list
-  to-k : (s : Surface) (w j : ℕ) (ms : List (List ℕ)) (byte : ℕ) → From s w j ms byte → (k : ℕ) × (k < length ms) × By s (position_in w (j + k)) (get_or ms k []) byte
-  to-k s w j [] byte h = absurd h
-  to-k s w j (m ∷ ms) byte (inl h) = (0, omega arith, rw (add-zero j) h)
-  to-k s w j (m ∷ ms) byte (inr h) =
-      let r = to-k s w (j + 1) ms byte h in
+  to_k : (s : Surface) (w j : ℕ) (ms : List (List ℕ)) (byte : ℕ) → From s w j ms byte → (k : ℕ) × (k < length ms) × By s (position_in w (j + k)) (get_or ms k []) byte
+  to_k s w j [] byte h = absurd h
+  to_k s w j (m ∷ ms) byte (inl h) = (0, omega arith, rw (add-zero j) h)
+  to_k s w j (m ∷ ms) byte (inr h) =
+      let r = to_k s w (j + 1) ms byte h in
       let e : j + suc r.0 ≡ j + 1 + r.0 = omega arith in
       (suc r.0, omega (arith, r.1), rw e r.2)
 
-  from-k : (s : Surface) (w j : ℕ) (ms : List (List ℕ)) (byte k : ℕ) → k < length ms → By s (position_in w (j + k)) (get_or ms k []) byte → From s w j ms byte
-  from-k s w j [] byte k l h = absurd (omega arith)
-  from-k s w j (m ∷ ms) byte zero l h = inl (rw (add-zero j) at h)
-  from-k s w j (m ∷ ms) byte (suc k) l h =
+  from_k : (s : Surface) (w j : ℕ) (ms : List (List ℕ)) (byte k : ℕ) → k < length ms → By s (position_in w (j + k)) (get_or ms k []) byte → From s w j ms byte
+  from_k s w j [] byte k l h = absurd (omega arith)
+  from_k s w j (m ∷ ms) byte zero l h = inl (rw (add-zero j) at h)
+  from_k s w j (m ∷ ms) byte (suc k) l h =
       let e : j + suc k ≡ j + 1 + k = omega arith in
-      inr (from-k s w (j + 1) ms byte k (omega arith) (rw e at h))
+      inr (from_k s w (j + 1) ms byte k (omega arith) (rw e at h))
 
   none_yet : Exact (λ (byte : ℕ). ⊥) (extent_of b fresh.extents)
   unfolding fresh
@@ -135,17 +135,17 @@ module _ (b : Buffer) where
       by forward = empty_exact
       by backward = empty_exact
 
-  start-count : have_come fresh ≡ 0
+  start_count : have_come fresh ≡ 0
   unfolding fresh
-  start-count = refl
+  start_count = refl
 
   -- What a walk that was not refused has touched of a buffer is what the batch's macroblocks touch of it.
-  pub touched-exact : (ws : List ℕ) (at : ℕ) (p : Progress) (g : List ℕ) → foldl step start ws ≡ going at p g → Exact (Touched ws b) (extent_of b p.extents)
-  touched-exact ws at p g e =
+  pub touched_exact : (ws : List ℕ) (at : ℕ) (p : Progress) (g : List ℕ) → foldl step start ws ≡ going at p g → Exact (Touched ws b) (extent_of b p.extents)
+  touched_exact ws at p g e =
       let r = batch_runs ws at p g e in
       let l = listed ws at p g e in
       let all : Exact (λ (byte : ℕ). ⊥ ⊎ From (batch_frame ws).surface (batch_picture ws).grid.columns 0 (macroblocks_in (commands_of ws)) byte) (extent_of b p.extents) =
-      rw (start-count, l.frame, l.picture) at (run-exact fresh (commands_of ws) p r fresh_sound none_yet) in
+      rw (start_count, l.frame, l.picture) at (run_exact fresh (commands_of ws) p r fresh_sound none_yet) in
       exact_same to back all
     where
       ms : List (List ℕ)
@@ -154,8 +154,8 @@ module _ (b : Buffer) where
       to : (byte : ℕ) → ⊥ ⊎ From (batch_frame ws).surface (batch_picture ws).grid.columns 0 ms byte → Touched ws b byte
       to byte (inl h) = absurd h
       to byte (inr h) =
-          let k = to-k (batch_frame ws).surface (batch_picture ws).grid.columns 0 ms byte h in
+          let k = to_k (batch_frame ws).surface (batch_picture ws).grid.columns 0 ms byte h in
           record { k = k.0; comes = k.1; touches = rw (zero-add k.0) at k.2 }
 
       back : (byte : ℕ) → Touched ws b byte → ⊥ ⊎ From (batch_frame ws).surface (batch_picture ws).grid.columns 0 ms byte
-      back byte t = inr (from-k (batch_frame ws).surface (batch_picture ws).grid.columns 0 ms byte t.k t.comes (rw (zero-add t.k) t.touches))
+      back byte t = inr (from_k (batch_frame ws).surface (batch_picture ws).grid.columns 0 ms byte t.k t.comes (rw (zero-add t.k) t.touches))

@@ -24,29 +24,29 @@ module _ (reported : Reported) (l : Lengths) where
   abbrev long : Buffer → Bool
   long b = leb (length_in b reported) (length_of b l)
 
-  below-1 : Long source → (b : Buffer) → buffer_number b < 1 → Long b
-  below-1 s source h = s
-  below-1 s reconstructed h = absurd (omega arith)
-  below-1 s forward h = absurd (omega arith)
-  below-1 s backward h = absurd (omega arith)
+  below_1 : Long source → (b : Buffer) → buffer_number b < 1 → Long b
+  below_1 s source h = s
+  below_1 s reconstructed h = absurd (omega arith)
+  below_1 s forward h = absurd (omega arith)
+  below_1 s backward h = absurd (omega arith)
 
-  below-2 : Long source → Long reconstructed → (b : Buffer) → buffer_number b < 2 → Long b
-  below-2 s r source h = s
-  below-2 s r reconstructed h = r
-  below-2 s r forward h = absurd (omega arith)
-  below-2 s r backward h = absurd (omega arith)
+  below_2 : Long source → Long reconstructed → (b : Buffer) → buffer_number b < 2 → Long b
+  below_2 s r source h = s
+  below_2 s r reconstructed h = r
+  below_2 s r forward h = absurd (omega arith)
+  below_2 s r backward h = absurd (omega arith)
 
-  below-3 : Long source → Long reconstructed → Long forward → (b : Buffer) → buffer_number b < 3 → Long b
-  below-3 s r f source h = s
-  below-3 s r f reconstructed h = r
-  below-3 s r f forward h = f
-  below-3 s r f backward h = absurd (omega arith)
+  below_3 : Long source → Long reconstructed → Long forward → (b : Buffer) → buffer_number b < 3 → Long b
+  below_3 s r f source h = s
+  below_3 s r f reconstructed h = r
+  below_3 s r f forward h = f
+  below_3 s r f backward h = absurd (omega arith)
 
-  all-four : Long source → Long reconstructed → Long forward → Long backward → (b : Buffer) → Long b
-  all-four s r f k source = s
-  all-four s r f k reconstructed = r
-  all-four s r f k forward = f
-  all-four s r f k backward = k
+  all_four : Long source → Long reconstructed → Long forward → Long backward → (b : Buffer) → Long b
+  all_four s r f k source = s
+  all_four s r f k reconstructed = r
+  all_four s r f k forward = f
+  all_four s r f k backward = k
 
   -- one buffer after the other
   abbrev turns : Bool → Bool → Bool → Bool → List Rule
@@ -67,11 +67,11 @@ module _ (reported : Reported) (l : Lengths) where
 
       by : (s r f k : Bool) → long source ≡ s → long reconstructed ≡ r → long forward ≡ f → long backward ≡ k → Outcome reported l
       by false r f k es er ef ek = short source (not_so source es) (λ b h. absurd (omega arith)) (lowest_first ∙ simp es)
-      by true false f k es er ef ek = short reconstructed (not_so reconstructed er) (below-1 (yes source es)) (lowest_first ∙ simp (es, er))
-      by true true false k es er ef ek = short forward (not_so forward ef) (below-2 (yes source es) (yes reconstructed er)) (lowest_first ∙ simp (es, er, ef))
+      by true false f k es er ef ek = short reconstructed (not_so reconstructed er) (below_1 (yes source es)) (lowest_first ∙ simp (es, er))
+      by true true false k es er ef ek = short forward (not_so forward ef) (below_2 (yes source es) (yes reconstructed er)) (lowest_first ∙ simp (es, er, ef))
       by true true true false es er ef ek =
-          short backward (not_so backward ek) (below-3 (yes source es) (yes reconstructed er) (yes forward ef)) (lowest_first ∙ simp (es, er, ef, ek))
-      by true true true true es er ef ek = enough (all-four (yes source es) (yes reconstructed er) (yes forward ef) (yes backward ek)) (lowest_first ∙ simp (es, er, ef, ek))
+          short backward (not_so backward ek) (below_3 (yes source es) (yes reconstructed er) (yes forward ef)) (lowest_first ∙ simp (es, er, ef, ek))
+      by true true true true es er ef ek = enough (all_four (yes source es) (yes reconstructed er) (yes forward ef) (yes backward ek)) (lowest_first ∙ simp (es, er, ef, ek))
 
 -- Document 02, R-8: "The verdict still depends on the end alone." Number and place are the same wherever the touched bytes begin.
 pub ends_alone : (r q : Reported) (l : Lengths) → SameEnds r q

@@ -19,7 +19,7 @@ use Rattle.commands.specs.declared.NextCommand.{NextCommand}
 use Rattle.commands.specs.declared.NextCommand.TheVariants.{Unknown, Incomplete, Whole}
 use Rattle.batch.specs.Walk.{Walk, going, stopped, limit, after, step, walk_of}
 use Rattle.batch.specs.declared.Walked.TheVariants.{Going}
-use Rattle.batch.proofs.WalkLaws.{stays, walk-next, full, used_within}
+use Rattle.batch.proofs.WalkLaws.{stays, walk_next, full, used_within}
 
 -- by what stands there: refused by 2, in progress, or a whole command judged and the words behind it
 abbrev pub turn_by : ℕ → ℕ → Progress → List ℕ → NextCommand → Walk
@@ -31,7 +31,7 @@ pub turn_next : (base at : ℕ) (p : Progress) (ws : List ℕ) (c : NextCommand)
     → c ≡ next_in (drop at ws) → foldl step (going (base + at) p []) (drop at ws) ≡ turn_by base at p ws c
 turn_next base at p ws c e l m s =
     let len : length (drop at ws) ≡ length ws - at = length-drop at ws in
-    walk-next (base + at) p e (drop at ws) (omega arith) ∙ rw (← s) (by c)
+    walk_next (base + at) p e (drop at ws) (omega arith) ∙ rw (← s) (by c)
   where
     by : (c : NextCommand)
         → by_next (stopped 2 (base + at)) (going (base + at) p (drop at ws)) (λ h n. foldl step (after (base + at) (base + at + n) (judge h p (take n (drop at ws)))) (drop n (drop at ws))) c
@@ -46,9 +46,9 @@ module _ (base at : ℕ) (p : Progress) (ws : List ℕ) (l : base + length ws �
   first_word = rw (drop-cons ws at 0 m) (rw add-one refl)
 
   -- a zero word: a NOOP, or one after END
-  pub turn-zero : word_at ws at ≡ 0 → foldl step (going (base + at) p []) (drop at ws) ≡ foldl step (going (base + (at + 1)) p []) (drop (at + 1) ws)
+  pub turn_zero : word_at ws at ≡ 0 → foldl step (going (base + at) p []) (drop at ws) ≡ foldl step (going (base + (at + 1)) p []) (drop (at + 1) ws)
   unfolding step after
-  turn-zero z = first_word ∙ by p.stage.ended refl
+  turn_zero z = first_word ∙ by p.stage.ended refl
     where
       by : (t : Bool) → p.stage.ended ≡ t
           → foldl step (step (going (base + at) p []) (word_at ws at)) (drop (at + 1) ws) ≡ foldl step (going (base + (at + 1)) p []) (drop (at + 1) ws)
@@ -58,10 +58,10 @@ module _ (base at : ℕ) (p : Progress) (ws : List ℕ) (l : base + length ws �
           simp (add-zero, lt-leb limit (base + at) (omega arith), e, noop_passes 1 p (0 ∷ []), ← add_assoc base at 1))
 
   -- another word after END
-  pub turn-behind : p.stage.ended ≡ true → (word_at ws at ≡ 0 → ⊥)
+  pub turn_behind : p.stage.ended ≡ true → (word_at ws at ≡ 0 → ⊥)
       → foldl step (going (base + at) p []) (drop at ws) ≡ stopped 12 (base + at)
   unfolding step
-  turn-behind e z =
+  turn_behind e z =
       first_word
       ∙ simp (add-zero, lt-leb limit (base + at) (omega arith), e, ne_eqb (word_at ws at) 0 z)
       (stays 12 (base + at) (drop (at + 1) ws))

@@ -43,9 +43,9 @@ module _ (at : ℕ) where
       simp (s, ← c, m, ne_eqb n 0 (λ z. omega arith), le-ltb n n (omega arith))
 
   -- What words cut into, by what they begin with: a word that names no command ends it, a command that is not whole is none.
-  pub cut-next : (ws : List ℕ) → cut at [] ws ≡ by_next [] [] (λ h n. command at h (take n ws) ∷ cut (at + n) [] (drop n ws)) (next_in ws)
+  pub cut_next : (ws : List ℕ) → cut at [] ws ≡ by_next [] [] (λ h n. command at h (take n ws) ∷ cut (at + n) [] (drop n ws)) (next_in ws)
   unfolding cut
-  cut-next ws = let top = length ws in by_next (cut at) [] done 0 top (unknown top) (more top) (last top) ws (omega arith)
+  cut_next ws = let top = length ws in by_next (cut at) [] done 0 top (unknown top) (more top) (last top) ws (omega arith)
 
 -- The MACROBLOCK commands of what is left of a batch from a word where a command begins.
 abbrev pub left : ℕ → List ℕ → List (List ℕ)
@@ -57,7 +57,7 @@ left_by at ws = by_next [] [] (λ h n. cond (begins Macroblock h) (take (at + n 
 
 pub left_next : (at : ℕ) (ws : List ℕ) (c : NextCommand) → c ≡ next_in (drop at ws) → left at ws ≡ left_by at ws c
 unfolding macroblocks_in
-left_next at ws c e = ap macroblocks_in (cut-next at (drop at ws) ∙ ap (by_next [] [] _) (sym e)) ∙ by c
+left_next at ws c e = ap macroblocks_in (cut_next at (drop at ws) ∙ ap (by_next [] [] _) (sym e)) ∙ by c
   where
     by : (c : NextCommand) → macroblocks_in (by_next [] [] (λ h n. command at h (take n (drop at ws)) ∷ cut (at + n) [] (drop n (drop at ws))) c) ≡ left_by at ws c
     by Unknown = refl

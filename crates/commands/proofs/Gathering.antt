@@ -54,11 +54,11 @@ module _ {A : Type 0} (read : List ℕ → List ℕ → A) (none : A) (done : He
       ∙ rw (← assoc) (completed (g ++ (w ∷ [])) v ws rest h n (omega arith) (rw assoc s) c (omega arith))
 
   -- Words of which the first n are a whole command.
-  pub first-whole : (n : ℕ) (ws : List ℕ) (h : Header) → base + n ≤ top → 1 ≤ n → n ≤ length ws → header_of (word_at ws 0) ≡ h → n ≡ words_in h
+  pub first_whole : (n : ℕ) (ws : List ℕ) (h : Header) → base + n ≤ top → 1 ≤ n → n ≤ length ws → header_of (word_at ws 0) ≡ h → n ≡ words_in h
       → read [] ws ≡ done h n (take n ws) (drop n ws)
-  first-whole zero ws h l some m s c = absurd (not-suc-le-zero some)
-  first-whole (suc n) [] h l some m s c = absurd (not-suc-le-zero m)
-  first-whole (suc n) (w ∷ ws) h l some m s c =
+  first_whole zero ws h l some m s c = absurd (not-suc-le-zero some)
+  first_whole (suc n) [] h l some m s c = absurd (not-suc-le-zero m)
+  first_whole (suc n) (w ∷ ws) h l some m s c =
       let len : length (take n ws) ≡ n = length-take-le n ws (omega arith) in
       ap (λ (x : List ℕ). read [] (w ∷ x)) (sym (take-append-drop n ws)) ∙ completed [] w (take n ws) (drop n ws) h (suc n) (omega arith) s c (omega arith)
 
@@ -79,7 +79,7 @@ module _ {A : Type 0} (read : List ℕ → List ℕ → A) (none : A) (done : He
       by false false e f =
           let all = ltb-false (suc (length ws)) n f in
           let some = eqb-false n 0 e in
-          first-whole n (w ∷ ws) (header_of w) (omega arith) (omega arith) (omega arith) refl refl
+          first_whole n (w ∷ ws) (header_of w) (omega arith) (omega arith) (omega arith) refl refl
 
 -- A whole command has at least one word, and no more than there are.
 abbrev Fits : ℕ → NextCommand → Type 0

@@ -7,7 +7,7 @@ use native.Mathlib.Omega.{arith}
 use borrow.Author.Tests.{ltb-false}
 use lib.Dec.{ltb}
 use lib.ListN.{length, get_or, drop, replicate}
-use Rattle.lists.proofs.Slices.{piece-at, pieces-length, front_length, front_beyond}
+use Rattle.lists.proofs.Slices.{piece_at, pieces_length, front_length, front_beyond}
 use Rattle.answers.specs.declared.Answer.TheVariants as alone
 use Rattle.macroblock.specs.Macroblocks.{macroblock_of}
 use Rattle.progress.specs.declared.Progress.{Progress}
@@ -27,18 +27,18 @@ use Rattle.batch.proofs.ReadAlone.{macroblocks_alone, alone_at}
 use Rattle.batch.proofs.Runs.{gone_through}
 use Rattle.decoding.specs.Logs.{record_alone, log_of, log_length, roomed, decoded, log_after, decoded_log, Decoded}
 use Rattle.decoding.proofs.Outcomes.{has_ended}
-use Rattle.decoding.proofs.RoomLaws.{not_passed, unwritten, not-accepted, lacking, roomy}
+use Rattle.decoding.proofs.RoomLaws.{not_passed, unwritten, not_accepted, lacking, roomy}
 use Rattle.batch.specs.Listed.{Alone}
 
 -- What a decoded batch that passes says of the check and of the room.
 module _ (needed : ℕ) (log : List ℕ) where
-  number-0 : (r : Report) → report_number (roomed needed log r) ≡ 0 → report_number r ≡ 0
-  number-0 (Accepted e) h = refl
-  number-0 (Short n place e) h = h
-  number-0 (Refused n place) h = h
+  number_0 : (r : Report) → report_number (roomed needed log r) ≡ 0 → report_number r ≡ 0
+  number_0 (Accepted e) h = refl
+  number_0 (Short n place e) h = h
+  number_0 (Refused n place) h = h
 
-  room-for : (e : Reported) → report_number (roomed needed log (Accepted e)) ≡ 0 → needed ≤ length log
-  room-for e h = by (ltb (length log) needed) refl h
+  room_for_lem : (e : Reported) → report_number (roomed needed log (Accepted e)) ≡ 0 → needed ≤ length log
+  room_for_lem e h = by (ltb (length log) needed) refl h
     where
       by : (b : Bool) → ltb (length log) needed ≡ b → report_number (cond b (Short 14 needed e) (Accepted e)) ≡ 0 → needed ≤ length log
       by true s h = let z : ◌≡◌ {A = ℕ} 14 0 = h in absurd (omega arith)
@@ -61,7 +61,7 @@ long_room l ws log h = roomy (log_length (batch_picture ws).grid) log (report l 
 
 pub refused_first : (l : Lengths) (ws log : List ℕ) → (report_number (report l ws) ≡ 0 → ⊥) → decoded l ws log ≡ report l ws
 unfolding decoded
-refused_first l ws log h = not-accepted (log_length (batch_picture ws).grid) log (report l ws) (not_passed (report l ws) h)
+refused_first l ws log h = not_accepted (log_length (batch_picture ws).grid) log (report l ws) (not_passed (report l ws) h)
 
 -- "No refusal writes into lent memory."
 pub refusal_writes_nothing : (l : Lengths) (ws log : List ℕ) → (report_number (decoded l ws log) ≡ 0 → ⊥) → decoded_log l ws log ≡ log
@@ -85,21 +85,21 @@ unfolding decoded decoded_log log_of
 decodes l ws log h =
     let needed = log_length (batch_picture ws).grid in
     let ms = macroblocks_in (commands_of ws) in
-    let passed = number-0 needed log (report l ws) h in
+    let passed = number_0 needed log (report l ws) h in
     let a = accepted_by_0 l ws passed in
     let r = kept_verdict l ws (passed_keeps (report l ws) passed) in
     let count = (has_ended ws r.0 r.1).full in
-    let fits : needed ≤ length log = room-for needed log a.0 (subst (λ (x : Report). report_number (roomed needed log x) ≡ 0) a.1 h) in
+    let fits : needed ≤ length log = room_for_lem needed log a.0 (subst (λ (x : Report). report_number (roomed needed log x) ≡ 0) a.1 h) in
     let is : decoded l ws log ≡ Accepted a.0 = roomy needed log (report l ws) fits ∙ a.1 in
     let after : decoded_log l ws log ≡ log_of ws ++ drop (length (log_of ws)) log = ap (λ (x : Report). log_after x (log_of ws) log) is in
     let size : (m : List ℕ) → length (record_alone m) ≡ record_length = λ m. record_length_lem (macroblock_of m) in
-    let long : length (log_of ws) ≡ needed = pieces-length record_alone record_length size ms ∙ ap (λ (n : ℕ). record_length * n) count in
+    let long : length (log_of ws) ≡ needed = pieces_length record_alone record_length size ms ∙ ap (λ (n : ℕ). record_length * n) count in
     rw after (record {
       count = count;
       fits = fits;
       same_length = front_length (log_of ws) log (omega arith);
       record_at = λ k b.
           let one = record_alone_lem (get_or ms k []) (all_alone ws r.0 r.1 k b) in
-          (one.0, piece-at record_alone record_length size ms (drop (length (log_of ws)) log) [] k b ∙ sym one.1);
+          (one.0, piece_at record_alone record_length size ms (drop (length (log_of ws)) log) [] k b ∙ sym one.1);
       beyond = front_beyond (log_of ws) log needed long;
     })

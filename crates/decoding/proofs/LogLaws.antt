@@ -10,7 +10,7 @@ use lib.Seq.{length-take-le, take_at, drop_at, drop-drop}
 use borrow.Author.Tests.{le-ltb}
 use borrow.Rule.Slice.PartMut.{mid_of, put_mid}
 use Rattle.answers.specs.Lending.{lent_after, room_for}
-use Rattle.lists.proofs.Slices.{part_rest, part_back, pieces-length}
+use Rattle.lists.proofs.Slices.{part_rest, part_back, pieces_length}
 use Rattle.lists.proofs.Booleans.{no}
 use Rattle.fields.specs.Word.{flag}
 use Rattle.macroblock.specs.Macroblocks.{macroblock_of}
@@ -31,7 +31,7 @@ abbrev pub records_of : List (List ℕ) → List ℕ
 records_of ms = flatten (map record_alone ms)
 
 records_length : (ms : List (List ℕ)) → length (records_of ms) ≡ 24 * length ms
-records_length ms = pieces-length record_alone record_length (λ m. record_length_lem (macroblock_of m)) ms
+records_length ms = pieces_length record_alone record_length (λ m. record_length_lem (macroblock_of m)) ms
 
 -- A log with the records of macroblocks in their places, the first of them the k-th; all else stays.
 abbrev pub placed : ℕ → List (List ℕ) → List ℕ → List ℕ
@@ -94,9 +94,9 @@ none_written false k m log e = (sym (add-zero k), sym (take-append-drop (24 * k)
 
 -- A record written into the part of the log from the k-th place on.
 module _ (k : ℕ) (m : List ℕ) (x : Macroblock) (log part : List ℕ) (is : x ≡ macroblock_of m) (l : 24 * (k + 1) ≤ length log) where
-  in-part : part ≡ lent_after (room_for record_length (drop (24 * k) log)) (record_of x) (drop (24 * k) log)
+  in_part : part ≡ lent_after (room_for record_length (drop (24 * k) log)) (record_of x) (drop (24 * k) log)
       → part ≡ record_alone m ++ drop (24 * (k + 1)) log
-  in-part e =
+  in_part e =
       let len = length-drop (24 * k) log in
       let fits : 24 ≤ length (drop (24 * k) log) = omega arith in
       let sum : 24 * k + 24 ≡ 24 * (k + 1) = omega arith in
@@ -111,7 +111,7 @@ pub one_written : (b : Bool) (k : ℕ) (m : List ℕ) (x : Macroblock) (log part
     → (k + 1 ≡ k + flag b)
     × (put_mid (24 * k) (length log - 24 * k) log part ≡ take (24 * k) log ++ (cond b (record_alone m) [] ++ drop (24 * (k + 1)) log))
 one_written true k m x log part t l is e =
-    let stands = in-part k m x log part is l (rw (part_rest (24 * k) log) at e) in
+    let stands = in_part k m x log part is l (rw (part_rest (24 * k) log) at e) in
     (refl, part_back (24 * k) log part (omega arith) ∙ ap (λ (z : List ℕ). take (24 * k) log ++ z) stands)
 one_written false k m x log part t l is e = absurd (no t)
 
@@ -141,10 +141,10 @@ module _ {ws before : List ℕ} {at k : ℕ} {log : List ℕ} (h : Header) (n : 
   pub next_fits : 24 * (k + flag (begins opcodes.Macroblock h)) ≤ length log
   next_fits = let r = rest in omega arith
 
-  pub writing-on : (next : ℕ) (new : List ℕ) → at + n ≤ length ws → next ≡ k + flag (begins opcodes.Macroblock h)
+  pub writing_on : (next : ℕ) (new : List ℕ) → at + n ≤ length ws → next ≡ k + flag (begins opcodes.Macroblock h)
       → new ≡ take (24 * k) log ++ (cond (begins opcodes.Macroblock h) (record_alone (take (at + n - at) (drop at ws))) [] ++ drop (24 * next) log)
       → length new ≡ length log → Writing ws before (at + n) next new
-  writing-on next new i e f l =
+  writing_on next new i e f l =
       let r = rest in
       let c = room_next (begins opcodes.Macroblock h) k (take (at + n - at) (drop at ws)) (left (at + n) ws) in
       record {

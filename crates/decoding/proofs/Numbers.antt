@@ -19,13 +19,13 @@ module _ (words needed : ℕ) (log : List ℕ) where
   abbrev Numbered : Report → Type 0
   Numbered r = DecodedBy words needed (report_number r) (report_place r)
 
-  room-numbers : (r : Report) → CheckedBy words (report_number r) (report_place r) → Numbered (roomed needed log r)
-  room-numbers (Accepted e) c = either Numbered (ltb (length log) needed) (Short 14 needed e) (Accepted e) (short_room refl refl) (checked c)
-  room-numbers (Short n place e) c = checked c
-  room-numbers (Refused n place) c = checked c
+  room_numbers : (r : Report) → CheckedBy words (report_number r) (report_place r) → Numbered (roomed needed log r)
+  room_numbers (Accepted e) c = either Numbered (ltb (length log) needed) (Short 14 needed e) (Accepted e) (short_room refl refl) (checked c)
+  room_numbers (Short n place e) c = checked c
+  room_numbers (Refused n place) c = checked c
 
 -- "Decoding needs 24·W·H bytes": 14 has this place.
 pub decode_numbers : (l : Lengths) (ws log : List ℕ)
     → DecodedBy (length ws) (log_length (batch_picture ws).grid) (report_number (decoded l ws log)) (report_place (decoded l ws log))
 unfolding decoded
-decode_numbers l ws log = room-numbers (length ws) (log_length (batch_picture ws).grid) log (report l ws) (check_numbers l ws)
+decode_numbers l ws log = room_numbers (length ws) (log_length (batch_picture ws).grid) log (report l ws) (check_numbers l ws)

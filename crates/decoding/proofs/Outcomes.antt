@@ -17,7 +17,7 @@ use Rattle.batch.specs.declared.Reported.{Reported}
 use Rattle.batch.proofs.CommandList.{listed}
 use Rattle.batch.proofs.Runs.{gone_through}
 use Rattle.decoding.specs.Logs.{log_of, log_length, roomed, decoded, log_after, decoded_log}
-use Rattle.decoding.proofs.RoomLaws.{Other, unwritten, not-accepted, lacking, roomy}
+use Rattle.decoding.proofs.RoomLaws.{Other, unwritten, not_accepted, lacking, roomy}
 
 -- What a batch that came to its END says of its picture: the progress has it, and its macroblocks are W-as-H.
 pub record Ended (ws : List ℕ) (p : Progress) : Type 0 where
@@ -52,12 +52,12 @@ module _ (l : Lengths) (ws log : List ℕ) where
     -- a buffer is too short
     pub lacks-buffer : Other r → (r ≡ decoded l ws log) × (log ≡ decoded_log l ws log)
     lacks-buffer o =
-        both r log (answer r refl ∙ not-accepted (log_length p.picture.grid) log r o) (sym (unwritten r (log_of ws) log o))
+        both r log (answer r refl ∙ not_accepted (log_length p.picture.grid) log r o) (sym (unwritten r (log_of ws) log o))
 
     module _ (e : Reported) (a : r ≡ Accepted e) (needed : ℕ) (n : needed ≡ log_length p.picture.grid) where
       -- the log is too short
-      pub lacks-room : length log < needed → (Short 14 needed e ≡ decoded l ws log) × (log ≡ decoded_log l ws log)
-      lacks-room h =
+      pub lacks_room : length log < needed → (Short 14 needed e ≡ decoded l ws log) × (log ≡ decoded_log l ws log)
+      lacks_room h =
           both (Short 14 needed e) log
           (answer (Accepted e) a ∙ ap (λ (x : ℕ). roomed x log (Accepted e)) (sym n) ∙ lacking needed log e h)
           refl

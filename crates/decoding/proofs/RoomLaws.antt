@@ -29,10 +29,10 @@ unwritten (Refused n place) new log o = refl
 
 module _ (needed : ℕ) (log : List ℕ) where
   -- It is the answer, whatever the room.
-  pub not-accepted : (r : Report) → Other r → roomed needed log r ≡ r
-  not-accepted (Accepted e) o = absurd o
-  not-accepted (Short n place e) o = refl
-  not-accepted (Refused n place) o = refl
+  pub not_accepted : (r : Report) → Other r → roomed needed log r ≡ r
+  not_accepted (Accepted e) o = absurd o
+  not_accepted (Short n place e) o = refl
+  not_accepted (Refused n place) o = refl
 
   -- The log is too short.
   pub lacking : (e : Reported) → length log < needed → roomed needed log (Accepted e) ≡ Short 14 needed e

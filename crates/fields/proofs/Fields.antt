@@ -36,19 +36,19 @@ no_bits a n e = ap (λ (x : ℕ). a % 2 ^ x) e ∙ mod-one a
 
 -- a word of what stands above a field of n bits, the field, and what stands below
 module _ (h v l n k : ℕ) (hv : v < 2 ^ n) (hl : l < 2 ^ k) where
-  above-back : (h * 2 ^ (n + k) + v * 2 ^ k + l) / 2 ^ (n + k) ≡ h
-  above-back = ap (λ (x : ℕ). x / 2 ^ (n + k)) (add_assoc (h * 2 ^ (n + k)) (v * 2 ^ k) l) ∙ high h (n + k) (joined_lt n k hv hl)
+  above_back : (h * 2 ^ (n + k) + v * 2 ^ k + l) / 2 ^ (n + k) ≡ h
+  above_back = ap (λ (x : ℕ). x / 2 ^ (n + k)) (add_assoc (h * 2 ^ (n + k)) (v * 2 ^ k) l) ∙ high h (n + k) (joined_lt n k hv hl)
 
-  two-parts : h * 2 ^ (n + k) + v * 2 ^ k + l ≡ (h * 2 ^ n + v) * 2 ^ k + l
-  two-parts =
+  two_parts : h * 2 ^ (n + k) + v * 2 ^ k + l ≡ (h * 2 ^ n + v) * 2 ^ k + l
+  two_parts =
       ap (λ (x : ℕ). x + l)
       (ap (λ (x : ℕ). x + v * 2 ^ k) (ap (λ (x : ℕ). h * x) (pow-add 2 n k) ∙ sym (mul_assoc h (2 ^ n) (2 ^ k))) ∙ sym (add-mul (h * 2 ^ n) v (2 ^ k)))
 
   field_back : (h * 2 ^ (n + k) + v * 2 ^ k + l) / 2 ^ k % 2 ^ n ≡ v
-  field_back = ap (λ (x : ℕ). x % 2 ^ n) (ap (λ (x : ℕ). x / 2 ^ k) two-parts ∙ high (h * 2 ^ n + v) k hl) ∙ low h n hv
+  field_back = ap (λ (x : ℕ). x % 2 ^ n) (ap (λ (x : ℕ). x / 2 ^ k) two_parts ∙ high (h * 2 ^ n + v) k hl) ∙ low h n hv
 
-  below-back : (h * 2 ^ (n + k) + v * 2 ^ k + l) % 2 ^ k ≡ l
-  below-back = ap (λ (x : ℕ). x % 2 ^ k) two-parts ∙ low (h * 2 ^ n + v) k hl
+  below_back : (h * 2 ^ (n + k) + v * 2 ^ k + l) % 2 ^ k ≡ l
+  below_back = ap (λ (x : ℕ). x % 2 ^ k) two_parts ∙ low (h * 2 ^ n + v) k hl
 
 module _ (word hi lo value : ℕ) where
   abbrev n : ℕ
@@ -57,11 +57,11 @@ module _ (word hi lo value : ℕ) where
   abbrev above : ℕ
   above = word / 2 ^ (n + lo)
 
-  value-lt : value % 2 ^ n < 2 ^ n
-  value-lt = mod-lt value (pow_pos n)
+  value_lt : value % 2 ^ n < 2 ^ n
+  value_lt = mod-lt value (pow_pos n)
 
-  below-lt : word % 2 ^ lo < 2 ^ lo
-  below-lt = mod-lt word (pow_pos lo)
+  below_lt : word % 2 ^ lo < 2 ^ lo
+  below_lt = mod-lt word (pow_pos lo)
 
   -- no bits: the word as it was
   pub same_word : n ≡ 0 → with_bits word hi lo value ≡ word
@@ -78,30 +78,30 @@ module _ (word hi lo value : ℕ) where
       by (inl e) = ap (λ (x : ℕ). bits x h l) (same_word e)
       by (inr p) =
           ap (λ (x : ℕ). x % 2 ^ width h l)
-          (high_agree (with_bits word hi lo value) word (n + lo) l (omega arith) (above-back above (value % 2 ^ n) (word % 2 ^ lo) n lo value-lt below-lt))
+          (high_agree (with_bits word hi lo value) word (n + lo) l (omega arith) (above_back above (value % 2 ^ n) (word % 2 ^ lo) n lo value_lt below_lt))
 
-  kept-below : (h l : ℕ) → h < lo → bits (with_bits word hi lo value) h l ≡ bits word h l
-  kept-below h l a = by (eq-zero-or-pos (width h l))
+  kept_below : (h l : ℕ) → h < lo → bits (with_bits word hi lo value) h l ≡ bits word h l
+  kept_below h l a = by (eq-zero-or-pos (width h l))
     where
       by : (width h l ≡ 0) ⊎ (0 < width h l) → bits (with_bits word hi lo value) h l ≡ bits word h l
       by (inl e) = no_bits (with_bits word hi lo value / 2 ^ l) (width h l) e ∙ sym (no_bits (word / 2 ^ l) (width h l) e)
       by (inr p) =
-          low_agree (with_bits word hi lo value) word lo (width h l) l (omega arith) (below-back above (value % 2 ^ n) (word % 2 ^ lo) n lo value-lt below-lt)
+          low_agree (with_bits word hi lo value) word lo (width h l) l (omega arith) (below_back above (value % 2 ^ n) (word % 2 ^ lo) n lo value_lt below_lt)
 
   -- A packed word gives its fields back: the one that was put in, and each that lies wholly above or below it.
-  pub packed-back : (bits (with_bits word hi lo value) hi lo ≡ value % 2 ^ width hi lo) × ((h l : ℕ) → (h < lo) ⊎ (hi < l) → bits (with_bits word hi lo value) h l ≡ bits word h l)
-  packed-back = (field_back above (value % 2 ^ n) (word % 2 ^ lo) n lo value-lt below-lt, apart)
+  pub packed_back : (bits (with_bits word hi lo value) hi lo ≡ value % 2 ^ width hi lo) × ((h l : ℕ) → (h < lo) ⊎ (hi < l) → bits (with_bits word hi lo value) h l ≡ bits word h l)
+  packed_back = (field_back above (value % 2 ^ n) (word % 2 ^ lo) n lo value_lt below_lt, apart)
     where
       apart : (h l : ℕ) → (h < lo) ⊎ (hi < l) → bits (with_bits word hi lo value) h l ≡ bits word h l
-      apart h l (inl a) = kept-below h l a
+      apart h l (inl a) = kept_below h l a
       apart h l (inr a) = kept_above h l a
 
 -- The same for a caller whose positions are numerals: `tt` decides them.
 pub field_put : (word hi lo value : ℕ) → value < 2 ^ width hi lo → bits (with_bits word hi lo value) hi lo ≡ value
-field_put word hi lo value h = (packed-back word hi lo value).0 ∙ mod-eq_of_lt h
+field_put word hi lo value h = (packed_back word hi lo value).0 ∙ mod-eq_of_lt h
 
 pub field_kept : (word hi lo value h l : ℕ) → T (ltb h lo || ltb hi l) → bits (with_bits word hi lo value) h l ≡ bits word h l
-field_kept word hi lo value h l t = (packed-back word hi lo value).1 h l (either (ltb h lo) (ltb hi l) refl refl t)
+field_kept word hi lo value h l t = (packed_back word hi lo value).1 h l (either (ltb h lo) (ltb hi l) refl refl t)
   where
     either : (p q : Bool) → ltb h lo ≡ p → ltb hi l ≡ q → T (p || q) → (h < lo) ⊎ (hi < l)
     either true q e f t = inl (ltb-true h lo e)
@@ -117,7 +117,7 @@ with_bits_lt word hi lo value h = by (eq-zero-or-pos (width hi lo))
         let k = width hi lo + lo in
         let s : 32 - k + k ≡ 32 = omega arith in
         let high = shr_lt (32 - k) k (subst (λ (x : ℕ). word < 2 ^ x) (sym s) h) in
-        let low = joined_lt (width hi lo) lo (value-lt word hi lo value) (below-lt word hi lo value) in
+        let low = joined_lt (width hi lo) lo (value_lt word hi lo value) (below_lt word hi lo value) in
         subst₂ (λ (x y : ℕ). x < 2 ^ y)
         (sym (add_assoc (word / 2 ^ k * 2 ^ k) (value % 2 ^ width hi lo * 2 ^ lo) (word % 2 ^ lo)))
         s

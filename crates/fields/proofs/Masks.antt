@@ -44,7 +44,7 @@ module _ (word value n k : ℕ) {b f : ℕ} (fits : word < 2 ^ 32) (eb : b ≡ 2
       ∙ sym (add_assoc (word / 2 ^ (n + k) * 2 ^ (n + k)) (value % 2 ^ n * 2 ^ k) (word % 2 ^ k))
 
   -- the field reaches bit 31: nothing stands above
-  pub packed-top : 32 ≤ n + k → bit_or (bit_and word b) ((bit_and value f * 2 ^ k) % 2 ^ 32) ≡ three word value n k
-  packed-top h =
+  pub packed_top : 32 ≤ n + k → bit_or (bit_and word b) ((bit_and value f * 2 ^ k) % 2 ^ 32) ≡ three word value n k
+  packed_top h =
       let none = nothing_above word (n + k) (lt_of_lt_of_le fits (pow_mono h)) in
       lower ∙ ap (λ (x : ℕ). x + word % 2 ^ k) (sym (ap (λ (x : ℕ). x + value % 2 ^ n * 2 ^ k) none ∙ zero-add (value % 2 ^ n * 2 ^ k)))

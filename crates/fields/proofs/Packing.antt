@@ -9,7 +9,7 @@ use lib.Dec.{T, eqb, leb, ltb, eqb→eq, leb→le, ltb→lt}
 use lib.Pow.{pow_pos}
 use Rattle.lists.proofs.Booleans.{both}
 use Rattle.fields.specs.Word.{Field, width, bits, with_bits, packed}
-use Rattle.fields.proofs.Fields.{packed-back, field_kept, with_bits_lt, agree_up, same_below_32}
+use Rattle.fields.proofs.Fields.{packed_back, field_kept, with_bits_lt, agree_up, same_below_32}
 use Rattle.fields.specs.Pieces.{value_in, clear, Piece, tiles, Agree}
 
 is_true : (a : Bool) → a ≡ true → T a
@@ -29,7 +29,7 @@ packed_field (f ∷ fs) h l t = by (packed_field fs h l) (eqb h f.hi && eqb l f.
         subst₂ (λ (x y : ℕ). bits (with_bits (packed fs) f.hi f.lo f.value) x y ≡ f.value % 2 ^ width x y)
         (sym (eqb→eq _ _ same.0))
         (sym (eqb→eq _ _ same.1))
-        (packed-back (packed fs) f.hi f.lo f.value).0
+        (packed_back (packed fs) f.hi f.lo f.value).0
     by rest false e u =
         let apart = both (ltb h f.lo || ltb f.hi l) (clear fs h l) u in
         field_kept (packed fs) f.hi f.lo f.value h l apart.0 ∙ rest apart.1
@@ -52,8 +52,8 @@ module _ (fs : List Field) (w : ℕ) where
       (agree_up (packed fs) w p.hi p.lo (leb→le _ _ t2.0) (ltb→lt _ _ t3.0) below (packed_field fs p.hi p.lo t4.0 ∙ a.0))
 
   -- A word is the packed one where it has, in each of the pieces that make it up, what the fields put there.
-  pub packed-is : (ps : List Piece) → w < 2 ^ 32 → T (tiles fs 0 ps) → Agree fs w ps → packed fs ≡ w
-  packed-is ps h t a = same_below_32 (packed fs) w (packed_lt fs) h (from ps 0 t a (mod-one (packed fs) ∙ sym (mod-one w)))
+  pub packed_is : (ps : List Piece) → w < 2 ^ 32 → T (tiles fs 0 ps) → Agree fs w ps → packed fs ≡ w
+  packed_is ps h t a = same_below_32 (packed fs) w (packed_lt fs) h (from ps 0 t a (mod-one (packed fs) ∙ sym (mod-one w)))
 
 -- A field holds no more than its bits.
 pub bits_cut : (w hi lo : ℕ) → bits w hi lo % 2 ^ width hi lo ≡ bits w hi lo

@@ -12,8 +12,8 @@ use Rattle.lists.proofs.Slices.{part_rest}
 module _ (at : ℕ) (room part bytes : List ℕ) (fits : at + length bytes ≤ length room)
     (copied : part ≡ take (length bytes) bytes ++ drop (length bytes) (mid_of at (length room - at) room)) where
   -- The bytes stand behind the first `at`, and what was beyond them stays.
-  pub copied-over : put_mid at (length room - at) room part ≡ take at room ++ (bytes ++ drop (at + length bytes) room)
-  copied-over =
+  pub copied_over : put_mid at (length room - at) room part ≡ take at room ++ (bytes ++ drop (at + length bytes) room)
+  copied_over =
       let beyond : drop (length bytes) (mid_of at (length room - at) room) ≡ drop (at + length bytes) room =
       ap (drop (length bytes)) (part_rest at room) ∙ drop-drop (length bytes) at room in
       let none = Post-is at (length room) room (omega arith) ∙ drop-length room in
@@ -25,5 +25,5 @@ module _ (at : ℕ) (room part bytes : List ℕ) (fits : at + length bytes ≤ l
       let rest = drop (at + length bytes) room in
       let front = length-take-le at room (omega arith) in
       let both = length-append (take at room) bytes in
-      ap (take (at + length bytes)) (copied-over ∙ sym (append_assoc (take at room) bytes rest))
+      ap (take (at + length bytes)) (copied_over ∙ sym (append_assoc (take at room) bytes rest))
       ∙ take_at (take at room ++ bytes) rest (at + length bytes) (omega arith)

@@ -38,8 +38,8 @@ handed_body s r g piece e h came =
 -- Bytes that were stored behind the first `held` of some bytes: `r` holds them all.
 module _ (held : ℕ) (old piece r : List ℕ) (len : length r ≡ 32) (room : held + length piece ≤ 32)
     (stored : take (held + length piece) r ≡ take held old ++ piece) where
-  pub held-length : length (take held old) ≡ held
-  held-length =
+  pub held_length : length (take held old) ≡ held
+  held_length =
       let all = length-take-le (held + length piece) r (omega arith) in
       let both = length-append (take held old) piece in
       omega (arith, ap length stored)
@@ -50,8 +50,8 @@ module _ (held need n : ℕ) (old piece r : List ℕ) (len : length r ≡ 32) (r
   some : length (take need piece) ≡ need
   some = length-take-le need piece enough
 
-  pub start-length : length (take held old) ≡ held
-  start-length = let some' = some in held-length held old (take need piece) r len (omega arith) stored
+  pub start_length : length (take held old) ≡ held
+  start_length = let some' = some in held_length held old (take need piece) r len (omega arith) stored
 
   pub filled : take n r ≡ take held old ++ take need piece
   filled = slices.filled held need n old piece r enough size stored

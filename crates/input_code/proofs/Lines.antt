@@ -8,7 +8,7 @@ use lib.ListN.{length, take, drop, replicate, length-append, length-replicate, r
 use lib.Seq.{take-append_seam, drop_at, drop-drop}
 use Rattle.input.specs.Input.{output_line}
 use Rattle.input.specs.declared.OutputLine.{OutputLine}
-use Rattle.input_code.proofs.Copying.{copied-over}
+use Rattle.input_code.proofs.Copying.{copied_over}
 
 abbrev zeros : ℕ → List ℕ
 zeros n = replicate n 0
@@ -37,7 +37,7 @@ put_text t text part size fits copied =
     ∙ ap (drop n) (drop_at t (zeros (256 - length t)) (length t) refl)
     ∙ fewer_zeros (256 - length t) n (omega arith)
     ∙ ap zeros fewer in
-    let over = copied-over (length t) room part text (omega arith) (rw size copied) in
+    let over = copied_over (length t) room part text (omega arith) (rw size copied) in
     ap₂ line
     (rw size at over
     ∙ ap₂ (λ (x y : List ℕ). x ++ (text ++ y)) (take-append_seam t (zeros (256 - length t))) left

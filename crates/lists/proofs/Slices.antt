@@ -54,27 +54,27 @@ front_beyond new before n e = drop_at new (drop (length new) before) n e ∙ ap 
 
 -- Lists of n elements, one behind the other: how long they are together, and the k-th of them.
 module _ {A : Type 0} (piece : A → List ℕ) (n : ℕ) (size : (a : A) → length (piece a) ≡ n) where
-  pub pieces-length : (xs : List A) → length (flatten (map piece xs)) ≡ n * length xs
+  pub pieces_length : (xs : List A) → length (flatten (map piece xs)) ≡ n * length xs
   unfolding flatten
-  pieces-length [] = sym (mul-zero n)
-  pieces-length (x ∷ xs) =
+  pieces_length [] = sym (mul-zero n)
+  pieces_length (x ∷ xs) =
       let one = size x in
-      let more = pieces-length xs in
+      let more = pieces_length xs in
       let all = length-append (piece x) (flatten (map piece xs)) in
       let next = mul-suc n (length xs) in
       omega arith
 
-  pub piece-at : (xs : List A) (rest : List ℕ) (d : A) (k : ℕ) → k < length xs → take n (drop (n * k) (flatten (map piece xs) ++ rest)) ≡ piece (get_or xs k d)
+  pub piece_at : (xs : List A) (rest : List ℕ) (d : A) (k : ℕ) → k < length xs → take n (drop (n * k) (flatten (map piece xs) ++ rest)) ≡ piece (get_or xs k d)
   unfolding flatten
-  piece-at [] rest d k l = absurd (omega arith)
-  piece-at (x ∷ xs) rest d zero l =
+  piece_at [] rest d k l = absurd (omega arith)
+  piece_at (x ∷ xs) rest d zero l =
       rw (mul-zero n, append_assoc (piece x) (flatten (map piece xs)) rest)
       (take_at (piece x) (flatten (map piece xs) ++ rest) n (size x))
-  piece-at (x ∷ xs) rest d (suc k) l =
+  piece_at (x ∷ xs) rest d (suc k) l =
       let others = flatten (map piece xs) ++ rest in
       let place : n * suc k ≡ n + n * k = omega (arith, mul-suc n k) in
       let behind : drop (n * suc k) ((piece x ++ flatten (map piece xs)) ++ rest) ≡ drop (n * k) others =
       ap₂ (λ (i : ℕ) (ys : List ℕ). drop i ys) place (append_assoc (piece x) (flatten (map piece xs)) rest)
       ∙ sym (drop-drop (n * k) n (piece x ++ others))
       ∙ ap (drop (n * k)) (drop_at (piece x) others n (size x)) in
-      ap (take n) behind ∙ piece-at xs rest d k (omega arith)
+      ap (take n) behind ∙ piece_at xs rest d k (omega arith)

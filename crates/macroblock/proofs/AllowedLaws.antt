@@ -24,8 +24,8 @@ module _ (a : Allowed) (w : ℕ) (h : type_permitted a w ≡ true) where
   abbrev t : ℕ
   t = bits w 12 8
 
-  type-alone : type_permitted alone w ≡ true
-  type-alone = by (is_set (bits w 13 13)) a.field h
+  type_alone : type_permitted alone w ≡ true
+  type_alone = by (is_set (bits w 13 13)) a.field h
     where
       by : (x f : Bool) → cond x (eqb t intra_type) (leb 1 t && leb t (cond f 4 3)) ≡ true → cond x (eqb t intra_type) (leb 1 t && leb t 4) ≡ true
       by true f e = e
@@ -35,8 +35,8 @@ module _ (a : Allowed) (w : ℕ) (h : type_permitted a w ≡ true) where
           both_true (and_left (leb 1 t) (leb t 3) e) (le-leb t 4 (omega arith))
 
   -- where it is permitted at all, type 04h is allowed
-  field-known : field_in a w ≡ eqb (kind_in w) 4
-  field-known = by (is_set (bits w 13 13)) a.field h
+  field_known : field_in a w ≡ eqb (kind_in w) 4
+  field_known = by (is_set (bits w 13 13)) a.field h
     where
       by : (x f : Bool) → cond x (eqb t intra_type) (leb 1 t && leb t (cond f 4 3)) ≡ true → (f && eqb (cond x 0 t) 4) ≡ eqb (cond x 0 t) 4
       by x true e = refl
@@ -75,25 +75,25 @@ module _ (a : Allowed) (ws : List ℕ) (k : judged (command_rules a ws) ≡ Acce
       (and_left dct (others (field_in a (w 1))) (held 4 1), and_right dct (others (field_in a (w 1))) (held 4 1))
 
   -- A command that is kept where this is allowed is kept alone.
-  pub kept-alone : judged (command_rules alone ws) ≡ Accepted
+  pub kept_alone : judged (command_rules alone ws) ≡ Accepted
   unfolding command_rules field_rules
-  kept-alone =
-      let known = field-known a (w 1) permitted in
+  kept_alone =
+      let known = field_known a (w 1) permitted in
       let dct = free_alone (zero_bits (w 1) 15 15) a.dct_type (not (is_set (bits (w 1) 2 2))) fixed.0 in
       let first = both_true dct (subst (λ (f : Bool). others f ≡ true) known fixed.1) in
-      let typed = both_true (type-alone a (w 1) permitted) (and_right (type_permitted a (w 1)) kept.intra_not_skipped (held 5 1)) in
+      let typed = both_true (type_alone a (w 1) permitted) (and_right (type_permitted a (w 1)) kept.intra_not_skipped (held 5 1)) in
       let fourth = subst (λ (f : Bool). fixed4 f (w 4) ≡ true) known (held 4 4) in
       let vectors = (hold_each (field_rules a kept ws) (vector_rules ws) (all_hold (command_rules a ws) k)).1 in
       none_broken (command_rules alone ws)
       (hold_both (field_rules alone kept ws) (vector_rules ws) (first, (typed, (held 11 1, (held 4 3, (held 5 3, (fourth, (held 5 4, tt))))))) vectors)
 
   -- It is field predicted, or has a field dct type, only where that is allowed; and the dct type is not skipped.
-  pub field-allowed : is_field (macroblock_of ws).case ≡ true → a.field ≡ true
+  pub field_allowed : is_field (macroblock_of ws).case ≡ true → a.field ≡ true
   unfolding macroblock_of
-  field-allowed e = and_left a.field (eqb (kind_in (w 1)) 4) (field-known a (w 1) permitted ∙ sym (field_case (motion_in ws)) ∙ e)
+  field_allowed e = and_left a.field (eqb (kind_in (w 1)) 4) (field_known a (w 1) permitted ∙ sym (field_case (motion_in ws)) ∙ e)
 
-  pub dct-allowed : (macroblock_of ws).dct_type ≡ true → (a.dct_type && not (macroblock_of ws).skip) ≡ true
+  pub dct_allowed : (macroblock_of ws).dct_type ≡ true → (a.dct_type && not (macroblock_of ws).skip) ≡ true
   unfolding macroblock_of
-  dct-allowed e =
+  dct_allowed e =
       let one = ap (λ (x : ℕ). eqb x 0) (eqb-true (bits (w 1) 15 15) 1 e) in
       subst (λ (x : Bool). (x || (a.dct_type && not (is_set (bits (w 1) 2 2)))) ≡ true) one fixed.0

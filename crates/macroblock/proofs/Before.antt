@@ -22,7 +22,7 @@ use Rattle.macroblock.specs.Macroblocks.{is_intra, intra_type, kind_in, motion_i
 use Rattle.macroblock.specs.Rules.{kept_by, neither, type_permitted, fixed1, fixed4, field_rules, vector_rules, command_rules}
 use Rattle.macroblock.specs.declared.Case.{Case}
 use Rattle.macroblock.specs.declared.Macroblock.{Macroblock}
-use Rattle.macroblock.proofs.AllowedLaws.{field-allowed, dct-allowed}
+use Rattle.macroblock.proofs.AllowedLaws.{field_allowed, dct_allowed}
 use Rattle.macroblock.proofs.CaseLaws.{field_case}
 use Rattle.macroblock.proofs.Congruence.{made}
 
@@ -199,14 +199,14 @@ module _ (ws : List ℕ) where
       by false e = ap judged (same-rules e)
 
   -- One that is kept says what it said.
-  pub said-before : judged (command_rules neither ws) ≡ Accepted → macroblock_of ws ≡ macroblock_before ws
+  pub said_before : judged (command_rules neither ws) ≡ Accepted → macroblock_of ws ≡ macroblock_before ws
   unfolding macroblock_of
-  said-before k = by-kind (eqb (kind_in (w 1)) 4) refl
+  said_before k = by-kind (eqb (kind_in (w 1)) 4) refl
     where
       by-dct : (x : Bool) → is_set (bits (w 1) 15 15) ≡ x → macroblock_of ws ≡ without_dct (macroblock_of ws)
-      by-dct true e = absurd (no (dct-allowed neither ws k e))
+      by-dct true e = absurd (no (dct_allowed neither ws k e))
       by-dct false e = ap (with_dct (macroblock_of ws)) e
 
       by-kind : (x : Bool) → eqb (kind_in (w 1)) 4 ≡ x → macroblock_of ws ≡ macroblock_before ws
-      by-kind true e = absurd (no (field-allowed neither ws k (field_case (motion_in ws) ∙ e)))
+      by-kind true e = absurd (no (field_allowed neither ws k (field_case (motion_in ws) ∙ e)))
       by-kind false e = by-dct (is_set (bits (w 1) 15 15)) refl ∙ same-said e

@@ -75,23 +75,23 @@ addable_added bytes count s a =
 
 -- Each refusal in its turn.
 module _ (bytes : List ℕ) (count : ℕ) (s : Sheet) where
-  pub first-refused : (n p : ℕ) → stored_fault bytes count ≡ Refused n p → add_answer bytes count s ≡ Refused n p
+  pub first_refused : (n p : ℕ) → stored_fault bytes count ≡ Refused n p → add_answer bytes count s ≡ Refused n p
   unfolding add_answer
-  first-refused n p e = simp e
+  first_refused n p e = simp e
 
-  pub side-refused : stored_fault bytes count ≡ Accepted → 1 < s.side → add_answer bytes count s ≡ Refused 22 0
+  pub side_refused : stored_fault bytes count ≡ Accepted → 1 < s.side → add_answer bytes count s ≡ Refused 22 0
   unfolding add_answer
-  side-refused e h = simp (e, lt-leb s.side 1 h)
+  side_refused e h = simp (e, lt-leb s.side 1 h)
 
-  pub edition-refused : stored_fault bytes count ≡ Accepted → s.side ≤ 1 → (s.edition ≡ next_edition s.boat (sheets_in count bytes) → ⊥)
+  pub edition_refused : stored_fault bytes count ≡ Accepted → s.side ≤ 1 → (s.edition ≡ next_edition s.boat (sheets_in count bytes) → ⊥)
       → add_answer bytes count s ≡ Refused 21 0
   unfolding add_answer
-  edition-refused e h other = simp (e, le-leb s.side 1 h, ne_eqb s.edition (next_edition s.boat (sheets_in count bytes)) other)
+  edition_refused e h other = simp (e, le-leb s.side 1 h, ne_eqb s.edition (next_edition s.boat (sheets_in count bytes)) other)
 
-  pub room-refused : stored_fault bytes count ≡ Accepted → s.side ≤ 1 → s.edition ≡ next_edition s.boat (sheets_in count bytes) → capacity bytes ≤ count
+  pub room_refused : stored_fault bytes count ≡ Accepted → s.side ≤ 1 → s.edition ≡ next_edition s.boat (sheets_in count bytes) → capacity bytes ≤ count
       → add_answer bytes count s ≡ Refused 14 0
   unfolding add_answer
-  room-refused e h is full = simp (e, le-leb s.side 1 h, eq-eqb s.edition (next_edition s.boat (sheets_in count bytes)) is, le-ltb count (capacity bytes) full)
+  room_refused e h is full = simp (e, le-leb s.side 1 h, eq-eqb s.edition (next_edition s.boat (sheets_in count bytes)) is, le-ltb count (capacity bytes) full)
 
 -- The next edition, from the boat's newest sheet.
 pub next_after : (boat : ℕ) (bytes : List ℕ) (count : ℕ) (m : Newest) (next : ℕ) → m ≡ newest boat highest_edition (sheets_in count bytes) → next ≡ edition_of m + 1
@@ -124,7 +124,7 @@ pub none_follows : (bytes : List ℕ) (count : ℕ) (s t : Sheet) → stored_fau
     → newest s.boat highest_edition (sheets_in count bytes) ≡ At t → t.edition ≡ highest_edition → add_answer bytes count s ≡ Refused 21 0
 none_follows bytes count s t e h fits n highest =
     let next = next_after s.boat bytes count (At t) (t.edition + 1) (sym n) refl in
-    edition-refused bytes count s e h (λ same. absurd (omega (arith, same, next)))
+    edition_refused bytes count s e h (λ same. absurd (omega (arith, same, next)))
 
 -- The numbers and places of refusals.
 pub fault_place : (bytes : List ℕ) (count n p : ℕ) → stored_fault bytes count ≡ Refused n p → (n ≡ 20) × (p < count)

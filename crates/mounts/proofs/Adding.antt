@@ -19,7 +19,7 @@ use Rattle.mounts.specs.declared.Asked.TheVariants.{Found}
 use Rattle.mounts.specs.declared.Newest.TheVariants.{At}
 use Rattle.mounts.specs.declared.Sheet.{Sheet}
 use Rattle.mounts.proofs.AddLaws.{add_addable, add_refused, add_accepted, fits_exactly, sound_stored}
-use Rattle.mounts.proofs.Agreeing.{Agree, same-sheets, same-judged}
+use Rattle.mounts.proofs.Agreeing.{Agree, same_sheets, same_judged}
 use Rattle.mounts.proofs.EditionLaws.{newest_next}
 use Rattle.mounts.proofs.Finding.{found_asked}
 use Rattle.mounts.proofs.SheetLaws.{record_length_lem, sheet_back, filler_zero}
@@ -57,8 +57,8 @@ module _ (bytes : List ℕ) (count : ℕ) (s : Sheet) (e : add_answer bytes coun
   done : (record { answer = Accepted; count = count + 1 } ≡ added bytes count s) × (take at bytes ++ (sheet_record s ++ rest) ≡ after)
   done = add_accepted bytes count s (sheet_record s ++ rest) e refl
 
-  pub added-count : (added bytes count s).count ≡ suc count
-  added-count = let one : count + 1 ≡ suc count = omega arith in sym (ap (λ (a : Added). a.count) done.0) ∙ one
+  pub added_count : (added bytes count s).count ≡ suc count
+  added_count = let one : count + 1 ≡ suc count = omega arith in sym (ap (λ (a : Added). a.count) done.0) ∙ one
 
   front : length (take at bytes) ≡ at
   front = let l = room in length-take-le at bytes (omega arith)
@@ -86,36 +86,36 @@ module _ (bytes : List ℕ) (count : ℕ) (s : Sheet) (e : add_answer bytes coun
   unfolding bytes_after
   same_length = simp e (length-sets bytes at (sheet_record s))
 
-  pub add-leaves : AddLeaves bytes count s (bytes_after bytes count s)
-  add-leaves = record { same_length = same_length; before_it = before_it; the_record = the_record; beyond_it = beyond_it }
+  pub add_leaves : AddLeaves bytes count s (bytes_after bytes count s)
+  add_leaves = record { same_length = same_length; before_it = before_it; the_record = the_record; beyond_it = beyond_it }
 
   agree : Agree bytes after count
   agree = let l = room in let n = same_length in record { in_first = omega arith; in_second = omega arith; same = sym before_it }
 
   -- The sheets are those of before, and the new one.
-  pub sheets-after : s.boat < 2 ^ 32 → s.edition < 2 ^ 32 → sheets_in (suc count) after ≡ sheets_in count bytes ++ s ∷ []
-  sheets-after hb he =
+  pub sheets_after : s.boat < 2 ^ 32 → s.edition < 2 ^ 32 → sheets_in (suc count) after ≡ sheets_in count bytes ++ s ∷ []
+  sheets_after hb he =
       let a = (add_addable bytes count s e).side in
-      ap₂ (λ (ss : List Sheet) (r : List ℕ). ss ++ sheet_in r ∷ []) (sym (same-sheets agree count (omega arith))) the_record
+      ap₂ (λ (ss : List Sheet) (r : List ℕ). ss ++ sheet_in r ∷ []) (sym (same_sheets agree count (omega arith))) the_record
       ∙ ap (λ (t : Sheet). sheets_in count bytes ++ t ∷ []) (sheet_back s hb he (omega arith))
 
-  new-good : s.boat < 2 ^ 32 → s.edition < 2 ^ 32 → good_at after count ≡ true
+  new_good : s.boat < 2 ^ 32 → s.edition < 2 ^ 32 → good_at after count ≡ true
   unfolding good_at
-  new-good hb he =
-      ap₂ good_after (sym (same-sheets agree count (omega arith))) the_record ∙ record_good (sheets_in count bytes) s hb he (add_addable bytes count s e).side (add_addable bytes count s e).edition
+  new_good hb he =
+      ap₂ good_after (sym (same_sheets agree count (omega arith))) the_record ∙ record_good (sheets_in count bytes) s hb he (add_addable bytes count s e).side (add_addable bytes count s e).edition
 
   -- None of them is bad.
-  pub sound-after : s.boat < 2 ^ 32 → s.edition < 2 ^ 32 → stored_fault after (suc count) ≡ Accepted
-  sound-after hb he =
+  pub sound_after : s.boat < 2 ^ 32 → s.edition < 2 ^ 32 → stored_fault after (suc count) ≡ Accepted
+  sound_after hb he =
       let a = add_addable bytes count s e in
       let r = a.room in
       let n = same_length in
-      let good = next_judged after count true (sym (same-judged agree count (omega arith)) ∙ a.sound.good) (new-good hb he) in
+      let good = next_judged after count true (sym (same_judged agree count (omega arith)) ∙ a.sound.good) (new_good hb he) in
       sound_stored after (suc count) (record { held = subst (λ (i : ℕ). suc count ≤ i / 16) (sym n) r; good = good })
 
   -- Asking for its edition or a later one gives what was added.
-  pub added-found : s.boat < 2 ^ 32 → s.edition < 2 ^ 32 → (edition : ℕ) → s.edition ≤ edition → asked (bytes_after bytes count s) (suc count) s.boat edition ≡ Found s
-  added-found hb he edition l =
+  pub added_found : s.boat < 2 ^ 32 → s.edition < 2 ^ 32 → (edition : ℕ) → s.edition ≤ edition → asked (bytes_after bytes count s) (suc count) s.boat edition ≡ Found s
+  added_found hb he edition l =
       let test = both_true (eq-eqb s.boat s.boat refl) (le-leb s.edition edition l) in
-      found_asked after (suc count) s.boat edition s (sound-after hb he)
-      (ap (newest s.boat edition) (sheets-after hb he) ∙ newest_next s.boat edition (sheets_in count bytes) s ∙ ap (λ (b : Bool). cond b (At s) (newest s.boat edition (sheets_in count bytes))) test)
+      found_asked after (suc count) s.boat edition s (sound_after hb he)
+      (ap (newest s.boat edition) (sheets_after hb he) ∙ newest_next s.boat edition (sheets_in count bytes) s ∙ ap (λ (b : Bool). cond b (At s) (newest s.boat edition (sheets_in count bytes))) test)

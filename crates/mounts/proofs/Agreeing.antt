@@ -28,20 +28,20 @@ pub record Agree (xs ys : List ℕ) (count : ℕ) : Type 0 where
   pub same : take (16 * count) xs ≡ take (16 * count) ys
 
 module _ {xs ys : List ℕ} {count : ℕ} (a : Agree xs ys count) where
-  pub same-record : (k : ℕ) → k < count → stored xs k ≡ stored ys k
-  same-record k l =
+  pub same_record : (k : ℕ) → k < count → stored xs k ≡ stored ys k
+  same_record k l =
       within xs (16 * count) (16 * k) 16 a.in_first (omega arith)
       ∙ ap (λ (z : List ℕ). take 16 (drop (16 * k) z)) a.same
       ∙ sym (within ys (16 * count) (16 * k) 16 a.in_second (omega arith))
 
-  pub same-sheets : (k : ℕ) → k ≤ count → sheets_in k xs ≡ sheets_in k ys
-  same-sheets zero l = refl
-  same-sheets (suc k) l = ap₂ (λ (ss : List Sheet) (r : List ℕ). ss ++ sheet_in r ∷ []) (same-sheets k (omega arith)) (same-record k (omega arith))
+  pub same_sheets : (k : ℕ) → k ≤ count → sheets_in k xs ≡ sheets_in k ys
+  same_sheets zero l = refl
+  same_sheets (suc k) l = ap₂ (λ (ss : List Sheet) (r : List ℕ). ss ++ sheet_in r ∷ []) (same_sheets k (omega arith)) (same_record k (omega arith))
 
   same_good : (k : ℕ) → k < count → good_at xs k ≡ good_at ys k
   unfolding good_at
-  same_good k l = ap₂ good_after (same-sheets k (omega arith)) (same-record k l)
+  same_good k l = ap₂ good_after (same_sheets k (omega arith)) (same_record k l)
 
-  pub same-judged : (k : ℕ) → k ≤ count → first_bad k xs ≡ first_bad k ys
-  same-judged zero l = refl
-  same-judged (suc k) l = ap₂ (λ (f : Answer) (g : Bool). unless f (rule 20 k g)) (same-judged k (omega arith)) (same_good k (omega arith))
+  pub same_judged : (k : ℕ) → k ≤ count → first_bad k xs ≡ first_bad k ys
+  same_judged zero l = refl
+  same_judged (suc k) l = ap₂ (λ (f : Answer) (g : Bool). unless f (rule 20 k g)) (same_judged k (omega arith)) (same_good k (omega arith))

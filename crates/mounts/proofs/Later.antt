@@ -20,8 +20,8 @@ use Rattle.mounts.specs.declared.Asked.TheVariants.{Found}
 use Rattle.mounts.specs.declared.Newest.TheVariants.{At}
 use Rattle.mounts.specs.declared.Sheet.{Sheet}
 use Rattle.mounts.proofs.AddLaws.{stored_sound, sound_stored, add_addable, fits_exactly}
-use Rattle.mounts.proofs.Adding.{refused_leaves, added-count, sheets-after, sound-after}
-use Rattle.mounts.proofs.Agreeing.{Agree, same-sheets, same-judged}
+use Rattle.mounts.proofs.Adding.{refused_leaves, added_count, sheets_after, sound_after}
+use Rattle.mounts.proofs.Agreeing.{Agree, same_sheets, same_judged}
 use Rattle.mounts.proofs.EditionLaws.{newest_next}
 use Rattle.mounts.proofs.Finding.{asked_found, found_asked}
 use Rattle.mounts.proofs.Rising.{kept_rises, newest_below}
@@ -58,13 +58,13 @@ agree_has xs ys count boat e t a f =
     let s = stored_sound xs count g.0 in
     let l = a.in_second in
     found_asked ys count boat e t
-    (sound_stored ys count (record { held = omega arith; good = sym (same-judged a count (omega arith)) ∙ s.good }))
-    (ap (newest boat e) (sym (same-sheets a count (omega arith))) ∙ g.1)
+    (sound_stored ys count (record { held = omega arith; good = sym (same_judged a count (omega arith)) ∙ s.good }))
+    (ap (newest boat e) (sym (same_sheets a count (omega arith))) ∙ g.1)
 
 -- One call.
 module _ (boat e : ℕ) (t : Sheet) (h : e < 2 ^ 32) where
-  one-step : (b : Book) (c : Call) (r : Book) → AddStep b c r → HasEdition b boat e t → HasEdition r boat e t
-  one-step b c r s has = by (add_answer lent b.count c.new) refl
+  one_step : (b : Book) (c : Call) (r : Book) → AddStep b c r → HasEdition b boat e t → HasEdition r boat e t
+  one_step b c r s has = by (add_answer lent b.count c.new) refl
     where
       lent : List ℕ
       lent = lent_with b c.beyond
@@ -86,11 +86,11 @@ module _ (boat e : ℕ) (t : Sheet) (h : e < 2 ^ 32) where
       by Accepted x =
           let after = bytes_after lent b.count c.new in
           let n = (asked_found lent b.count boat e t first).1 in
-          let still = ap (newest boat e) (sheets-after lent b.count c.new x c.boat_fits c.edition_fits) ∙ later_above lent b.count c.new t boat e h x n has.its_own in
+          let still = ap (newest boat e) (sheets_after lent b.count c.new x c.boat_fits c.edition_fits) ∙ later_above lent b.count c.new t boat e h x n has.its_own in
           record {
             found =
-                ap₂ (λ (bytes : List ℕ) (count : ℕ). asked bytes count boat e) s.bytes (s.count ∙ added-count lent b.count c.new x)
-                ∙ found_asked after (suc b.count) boat e t (sound-after lent b.count c.new x c.boat_fits c.edition_fits) still;
+                ap₂ (λ (bytes : List ℕ) (count : ℕ). asked bytes count boat e) s.bytes (s.count ∙ added_count lent b.count c.new x)
+                ∙ found_asked after (suc b.count) boat e t (sound_after lent b.count c.new x c.boat_fits c.edition_fits) still;
             its_own = has.its_own;
           }
 
@@ -98,4 +98,4 @@ module _ (boat e : ℕ) (t : Sheet) (h : e < 2 ^ 32) where
 pub later_adding : (b : Book) (calls : List Call) (r : Book) (boat e : ℕ) (t : Sheet) → e < 2 ^ 32 → Along AddStep b calls r
     → HasEdition b boat e t → HasEdition r boat e t
 later_adding b calls r boat e t h steps =
-    along AddStep (λ x cs y. HasEdition x boat e t → HasEdition y boat e t) (λ x has. has) (λ x c y cs z one others has. others (one-step boat e t h x c y one has)) b calls r steps
+    along AddStep (λ x cs y. HasEdition x boat e t → HasEdition y boat e t) (λ x has. has) (λ x c y cs z one others has. others (one_step boat e t h x c y one has)) b calls r steps

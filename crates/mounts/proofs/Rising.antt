@@ -103,9 +103,9 @@ pub good_edition : (bytes : List ℕ) (k : ℕ) → good_at bytes k ≡ true →
 unfolding good_at
 good_edition bytes k e =
     let s = sheet_at bytes k in
-    let zero_filler = eqb (value_at sheet_filler_part (stored bytes k)) 0 in
+    let zero_filler_lem = eqb (value_at sheet_filler_part (stored bytes k)) 0 in
     let follows = eqb s.edition (next_edition s.boat (sheets_in k bytes)) in
-    eqb-true s.edition (next_edition s.boat (sheets_in k bytes)) (and_right zero_filler follows (and_right (leb s.side 1) (zero_filler && follows) e))
+    eqb-true s.edition (next_edition s.boat (sheets_in k bytes)) (and_right zero_filler_lem follows (and_right (leb s.side 1) (zero_filler_lem && follows) e))
 
 -- The first records are good, and record k is.
 pub good_both : (bytes : List ℕ) (k : ℕ) → first_bad (suc k) bytes ≡ Accepted → (first_bad k bytes ≡ Accepted) × (good_at bytes k ≡ true)

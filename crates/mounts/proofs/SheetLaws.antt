@@ -69,10 +69,10 @@ zero_each b0 b1 b2 n = same (eqb b0 0 && eqb b1 0 && eqb b2 0 && eqb n 0) (eqb (
         let z = eqb-true (b0 + 256 * (b1 + 256 * (b2 + 256 * n))) 0 e in
         both_true (both_true (both_true (eq-eqb b0 0 (omega arith)) (eq-eqb b1 0 (omega arith))) (eq-eqb b2 0 (omega arith))) (eq-eqb n 0 (omega arith))
 
-pub zero_filler : (bytes : List ℕ) (k n : ℕ) → n ≡ number_in (elements bytes (16 * k + 12) 4)
+pub zero_filler_lem : (bytes : List ℕ) (k n : ℕ) → n ≡ number_in (elements bytes (16 * k + 12) 4)
     → (eqb (get_or bytes (16 * k + 9) 0) 0 && eqb (get_or bytes (16 * k + 10) 0) 0 && eqb (get_or bytes (16 * k + 11) 0) 0 && eqb n 0)
     ≡ eqb (value_at sheet_filler_part (stored bytes k)) 0
-zero_filler bytes k n e =
+zero_filler_lem bytes k n e =
     let at = 16 * k in
     let e1 : at + 10 ≡ suc (at + 9) = omega arith in
     let e2 : at + 11 ≡ suc (suc (at + 9)) = omega arith in

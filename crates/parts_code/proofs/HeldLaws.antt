@@ -56,20 +56,20 @@ unfolding gathered
 ended_none s e = simp e
 
 module _ (s : State) (e : s.progress.stage.ended ≡ false) where
-  gathered-is : gathered s ≡ held_in false s.at s.held s.buffer
+  gathered_is : gathered s ≡ held_in false s.at s.held s.buffer
   unfolding gathered
-  gathered-is = ap (λ (x : Bool). held_in x s.at s.held s.buffer) e
+  gathered_is = ap (λ (x : Bool). held_in x s.at s.held s.buffer) e
 
   pub over_none : asked s.buffer ≤ s.held → gathered s ≡ []
-  over_none h = gathered-is ∙ held_over s.at s.held s.buffer h
+  over_none h = gathered_is ∙ held_over s.at s.held s.buffer h
 
-  pub beyond-none : s.held < asked s.buffer → limit < s.at + s.held → gathered s ≡ []
-  beyond-none h l = gathered-is ∙ held_beyond s.at s.held s.buffer h l
+  pub beyond_none : s.held < asked s.buffer → limit < s.at + s.held → gathered s ≡ []
+  beyond_none h l = gathered_is ∙ held_beyond s.at s.held s.buffer h l
 
-  pub held-count : length s.buffer ≡ 61 → s.held < asked s.buffer → s.at + s.held ≤ limit → s.held ≡ length (gathered s)
-  held-count len h l =
+  pub held_count : length s.buffer ≡ 61 → s.held < asked s.buffer → s.at + s.held ≤ limit → s.held ≡ length (gathered s)
+  held_count len h l =
       let few = words_few (word_at s.buffer 0) in
-      sym (ap length (gathered-is ∙ held_some s.at s.held s.buffer h l) ∙ length-take-le s.held s.buffer (omega arith))
+      sym (ap length (gathered_is ∙ held_some s.at s.held s.buffer h l) ∙ length-take-le s.held s.buffer (omega arith))
 
 -- The state's fields where a command has begun.
 record Open (e : Bool) (at n : ℕ) (b : List ℕ) : Type 0 where
@@ -133,9 +133,9 @@ module _ (at : ℕ) (p : Progress) (ws : List ℕ) (r : Walked) (q : Progress) (
       let len = length-drop used ws in
       record { within = used_within at p ws q used (sym reached); few = omega arith; low = omega arith }
 
-  pub rest-kept : (b : List ℕ) → take (length ws - used) b ≡ drop used ws
+  pub rest_kept : (b : List ℕ) → take (length ws - used) b ≡ drop used ws
       → going (at + used) q (held_in q.stage.ended (at + used) (length ws - used) b) ≡ foldl step (going at p []) ws
-  rest-kept b e =
+  rest_kept b e =
       let len = length-drop used ws in
       ap (going (at + used) q)
       (kept q (at + used) (length ws - used) b (drop used ws) (left_short at p ws (at + used) q (drop used ws) reached)
@@ -180,59 +180,59 @@ module _ (w : Walk) (m : ℕ) (ws : List ℕ) (t : State) (came : walk_in t ≡ 
   on : foldl step w ws ≡ foldl step (walk_in t) (drop m ws)
   on = slices.split step w m ws ∙ ap (λ (x : Walk). foldl step x (drop m ws)) (sym came)
 
-  pub then-stopped : t.stopped ≡ true → walk_in t ≡ foldl step w ws
-  then-stopped e = stopped_stays t (drop m ws) e ∙ sym on
+  pub then_stopped : t.stopped ≡ true → walk_in t ≡ foldl step w ws
+  then_stopped e = stopped_stays t (drop m ws) e ∙ sym on
 
-  pub then-going : t.stopped ≡ false → gathered t ≡ [] → foldl step (going t.at t.progress []) (drop m ws) ≡ foldl step w ws
-  then-going e z = from_none t (drop m ws) e z ∙ sym on
+  pub then_going : t.stopped ≡ false → gathered t ≡ [] → foldl step (going t.at t.progress []) (drop m ws) ≡ foldl step w ws
+  then_going e z = from_none t (drop m ws) e z ∙ sym on
 
 -- A state that holds the first n words of a command.
 module _ (s : State) (n : ℕ) (e : s.stopped ≡ false) (len : length s.buffer ≡ 61) (count : n ≡ length (gathered s)) (some : 1 ≤ n) where
-  held-open : Open s.progress.stage.ended s.at s.held s.buffer
+  held_open : Open s.progress.stage.ended s.at s.held s.buffer
   unfolding gathered
-  held-open = opened s.progress.stage.ended s.at s.held s.buffer len (omega arith)
+  held_open = opened s.progress.stage.ended s.at s.held s.buffer len (omega arith)
 
-  held-is : gathered s ≡ take n s.buffer
+  held_is : gathered s ≡ take n s.buffer
   unfolding gathered
-  held-is = held-open.is ∙ ap (λ (k : ℕ). take k s.buffer) (sym (count ∙ held-open.count))
+  held_is = held_open.is ∙ ap (λ (k : ℕ). take k s.buffer) (sym (count ∙ held_open.count))
 
-  pub held-fewer : n < asked s.buffer
+  pub held_fewer : n < asked s.buffer
   unfolding gathered
-  held-fewer = let q = held-open.count in let f = held-open.fewer in omega arith
+  held_fewer = let q = held_open.count in let f = held_open.fewer in omega arith
 
   held_fits : s.at + n ≤ limit
   unfolding gathered
-  held_fits = let q = held-open.count in let f = held-open.fits in omega arith
+  held_fits = let q = held_open.count in let f = held_open.fits in omega arith
 
-  start-length : length (take n s.buffer) ≡ n
-  start-length =
+  start_length : length (take n s.buffer) ≡ n
+  start_length =
       let few = words_few (word_at s.buffer 0) in
-      let fewer = held-fewer in
+      let fewer = held_fewer in
       length-take-le n s.buffer (omega arith)
 
-  start-asked : asked (take n s.buffer) ≡ asked s.buffer
-  start-asked = ap (λ (k : ℕ). words_in (header_of k)) (get_or-take n s.buffer 0 0 some)
+  start_asked : asked (take n s.buffer) ≡ asked s.buffer
+  start_asked = ap (λ (k : ℕ). words_in (header_of k)) (get_or-take n s.buffer 0 0 some)
 
   -- the walk on, from the beginning of that command
-  pub from-held : (ws : List ℕ) → foldl step (going s.at s.progress []) (take n s.buffer ++ ws) ≡ foldl step (walk_in s) ws
-  from-held ws =
-      let fewer = held-fewer in
+  pub from_held : (ws : List ℕ) → foldl step (going s.at s.progress []) (take n s.buffer ++ ws) ≡ foldl step (walk_in s) ws
+  from_held ws =
+      let fewer = held_fewer in
       let fits = held_fits in
-      let long = start-length in
-      let same = start-asked in
-      sym (resumed s.at s.progress (take n s.buffer) ws (inr (held-open.going_on, omega arith)) (omega arith))
-      ∙ ap (λ (g : List ℕ). foldl step (going s.at s.progress g) ws) (sym held-is)
+      let long = start_length in
+      let same = start_asked in
+      sym (resumed s.at s.progress (take n s.buffer) ws (inr (held_open.going_on, omega arith)) (omega arith))
+      ∙ ap (λ (g : List ℕ). foldl step (going s.at s.progress g) ws) (sym held_is)
       ∙ ap (λ (x : Walk). foldl step x ws) (sym (walk_going s e))
 
   -- a state that goes on when that command is complete holds nothing
-  pub held-completed : (ws : List ℕ) → n + length ws ≡ asked s.buffer → (t : State) → t.stopped ≡ false
+  pub held_completed : (ws : List ℕ) → n + length ws ≡ asked s.buffer → (t : State) → t.stopped ≡ false
       → walk_in t ≡ foldl step (going s.at s.progress []) (take n s.buffer ++ ws) → gathered t ≡ []
-  held-completed ws size t f came =
+  held_completed ws size t f came =
       let fits = held_fits in
-      let long = start-length in
+      let long = start_length in
       let all : length (take n s.buffer ++ ws) ≡ length (take n s.buffer) + length ws = length-append (take n s.buffer) ws in
       let first : asked (take n s.buffer ++ ws) ≡ asked (take n s.buffer) =
       ap (λ (k : ℕ). words_in (header_of k)) (get_or-append (take n s.buffer) ws 0 0 (omega arith)) in
-      let same = start-asked in
-      completed s.at s.progress (take n s.buffer ++ ws) t.at t.progress (gathered t) held-open.going_on (omega arith)
+      let same = start_asked in
+      completed s.at s.progress (take n s.buffer ++ ws) t.at t.progress (gathered t) held_open.going_on (omega arith)
       (omega arith) (omega arith) (sym came ∙ walk_going t f)

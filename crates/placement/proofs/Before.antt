@@ -8,7 +8,7 @@ use lib.Dec.{eqb}
 use Rattle.lists.proofs.Booleans.{no}
 use Rattle.prediction.specs.Extents.{empty_extent, joined}
 use Rattle.prediction.specs.declared.Extent.{Extent}
-use Rattle.prediction.proofs.ExtentLaws.{join-right, empty_end}
+use Rattle.prediction.proofs.ExtentLaws.{join_right, empty_end}
 use Rattle.answers.specs.Answers.{Rule, rule, judged, earlier, answer_by}
 use Rattle.answers.specs.declared.Answer.TheVariants.{Accepted}
 use Rattle.answers.proofs.Judging.{both_accept}
@@ -22,8 +22,8 @@ use Rattle.macroblock.specs.declared.Case.{Case}
 use Rattle.macroblock.specs.declared.Case.TheVariants.{Intra, Inter}
 use Rattle.macroblock.specs.declared.Macroblock.{Macroblock}
 use Rattle.macroblock.specs.declared.Prediction.TheVariants.{Forward, Backward, Both, Field}
-use Rattle.macroblock.proofs.AllowedLaws.{field-allowed}
-use Rattle.macroblock.proofs.Before.{same-rules, same-said, said-before, four-placed}
+use Rattle.macroblock.proofs.AllowedLaws.{field_allowed}
+use Rattle.macroblock.proofs.Before.{same-rules, same-said, said_before, four-placed}
 use Rattle.macroblock.proofs.CaseLaws.{field_case}
 use Rattle.macroblock.proofs.Congruence.{made}
 use Rattle.picture.specs.declared.Picture.{Picture}
@@ -59,14 +59,14 @@ with_forward p x =
     }
 
 none_joined : (a : Extent) → joined a empty_extent ≡ a
-none_joined a = join-right a empty_extent empty_end
+none_joined a = join_right a empty_extent empty_end
 
 module _ (p : Progress) (ws : List ℕ) where
   -- Of every case but a field prediction the picture's rules answer alike, beside whatever other rules.
-  same-placed : (m : Macroblock) (rs : List Rule) → is_field m.case ≡ false
+  same_placed : (m : Macroblock) (rs : List Rule) → is_field m.case ≡ false
       → judged (placed_rules p (blocks_of p m.case) m ws ++ rs) ≡ judged (placed_rules_before p m ws ++ rs)
   unfolding placed_rules placed_rules_before blocks_of predicted forward_of backward_of bottom_of motion_of
-  same-placed m rs = by m.case
+  same_placed m rs = by m.case
     where
       by : (c : Case) → is_field c ≡ false → judged (placed_rules p (blocks_of p c) (with_case m c) ws ++ rs) ≡ judged (placed_rules_before p (with_case m c) ws ++ rs)
       by Intra e = refl
@@ -103,7 +103,7 @@ module _ (p : Progress) (ws : List ℕ) where
     unfolding macroblock_rules_before macroblock_of placed_rules_before
     any-other h =
         ap (λ (rs : List Rule). judged (placed ++ rs)) (same-rules ws h)
-        ∙ same-placed (macroblock_of ws) (command_rules_before ws) (field_case (motion_in ws) ∙ h)
+        ∙ same_placed (macroblock_of ws) (command_rules_before ws) (field_case (motion_in ws) ∙ h)
         ∙ ap (λ (m : Macroblock). judged (placed_rules_before p m ws ++ command_rules_before ws)) (same-said ws h)
 
     -- the rules behind the first
@@ -131,10 +131,10 @@ module _ (p : Progress) (ws : List ℕ) where
     unfolding macroblock_next macroblock_next_before
     next-before k =
         let kept = (both_accept placed (command_rules neither ws) (sym allowed ∙ k)).1 in
-        same_progress (macroblock_of ws) (by (is_field (macroblock_of ws).case) refl kept) ∙ ap (λ (m : Macroblock). progress_before p m ws) (said-before ws kept)
+        same_progress (macroblock_of ws) (by (is_field (macroblock_of ws).case) refl kept) ∙ ap (λ (m : Macroblock). progress_before p m ws) (said_before ws kept)
       where
         by : (x : Bool) → is_field (macroblock_of ws).case ≡ x → judged (command_rules neither ws) ≡ Accepted → is_field (macroblock_of ws).case ≡ false
-        by true e kept = absurd (no (field-allowed neither ws kept e))
+        by true e kept = absurd (no (field_allowed neither ws kept e))
         by false e kept = e
 
 -- Document 02, R-6: "All else stays for bit 10 = 1." Every command is answered as before, and one that is accepted changes what it changed.

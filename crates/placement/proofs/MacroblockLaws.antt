@@ -14,7 +14,7 @@ use Rattle.headers.specs.Words.{word_at}
 use Rattle.macroblock.specs.Macroblocks.{macroblock_of}
 use Rattle.macroblock.specs.Rules.{alone, command_rules}
 use Rattle.macroblock.specs.declared.Macroblock.{Macroblock}
-use Rattle.macroblock.proofs.AllowedLaws.{kept-alone}
+use Rattle.macroblock.proofs.AllowedLaws.{kept_alone}
 use Rattle.macroblock.proofs.CommandLaws.{command_within}
 use Rattle.progress.specs.declared.Progress.{Progress}
 use Rattle.placement.specs.Blocks.{blocks_of}
@@ -51,7 +51,7 @@ pub alone_kept : (p : Progress) (ws : List ℕ) → judged (macroblock_rules p w
 unfolding macroblock_rules
 alone_kept p ws e =
     let a = allowed_in p.picture in
-    kept-alone a ws (both_accept (placed_rules p (blocks_of p (macroblock_of ws).case) (macroblock_of ws) ws) (command_rules a ws) e).1
+    kept_alone a ws (both_accept (placed_rules p (blocks_of p (macroblock_of ws).case) (macroblock_of ws) ws) (command_rules a ws) e).1
 
 -- The rules refuse with numbers 1 to 12, at words 0 to 8.
 pub macroblock_within : (p : Progress) (ws : List ℕ) → T (within 12 8 (macroblock_rules p ws))

@@ -69,9 +69,9 @@ module _ {Before : ℕ → Type 0} {e : Extent} (before : Exact Before e) (s : S
       from byte (inr (inl h)) = inr h
       from byte (inr (inr h)) = absurd h
 
-  two-more : (r q : Reference) {x y : Extent} → Exact (TouchedThrough s at r) x → Exact (TouchedThrough s at q) y
+  two_more : (r q : Reference) {x y : Extent} → Exact (TouchedThrough s at r) x → Exact (TouchedThrough s at q) y
       → Exact (λ (byte : ℕ). Before byte ⊎ TouchedBy s at (r ∷ q ∷ []) byte) (joined (joined e x) y)
-  two-more r q p o = exact_same to from (join_exact (join_exact before p) o)
+  two_more r q p o = exact_same to from (join_exact (join_exact before p) o)
     where
       to : (byte : ℕ) → (Before byte ⊎ TouchedThrough s at r byte) ⊎ TouchedThrough s at q byte
           → Before byte ⊎ (TouchedThrough s at r byte ⊎ (TouchedThrough s at q byte ⊎ ⊥))
@@ -108,7 +108,7 @@ next_exact p ws accepted wide in_row b before = by b before
     by source before = one_more before s p.position (At Frame still) own
     by reconstructed before = one_more before s p.position (At Frame still) own
     by forward before =
-        two-more before s p.position (forward_of (macroblock_of ws).case) (bottom_of (macroblock_of ws).case)
+        two_more before s p.position (forward_of (macroblock_of ws).case) (bottom_of (macroblock_of ws).case)
         (through p.picture.forward (forward_of (macroblock_of ws).case) (rule_kept 10 5 (macroblock_rules p ws) accepted))
         (through p.picture.forward (bottom_of (macroblock_of ws).case) (rule_kept 10 7 (macroblock_rules p ws) accepted))
     by backward before =

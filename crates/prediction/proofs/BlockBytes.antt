@@ -18,10 +18,10 @@ use Rattle.prediction.specs.declared.Surface.{Surface}
 use Rattle.prediction.specs.declared.Grid.{Grid}
 use Rattle.prediction.specs.declared.Position.{Position}
 use Rattle.prediction.proofs.Integers.{both}
-use Rattle.prediction.proofs.SpanLaws.{first-covered, from_first, last-covered, up-to-last}
+use Rattle.prediction.proofs.SpanLaws.{first_covered, from_first, last_covered, up_to_last}
 use Rattle.prediction.proofs.ChromaInside.{chroma_inside}
 use Rattle.prediction.proofs.AddressGrows.{address_column, address_row}
-use Rattle.prediction.proofs.ExtentLaws.{between, join-both, join_exact, exact_same}
+use Rattle.prediction.proofs.ExtentLaws.{between, join_both, join_exact, exact_same}
 
 -- ---- bytes grow with the samples, in each plane
 grows : {pitch a b c d : ℕ} → 16 ≤ pitch → a ≤ b → c ≤ d → address pitch a c ≤ address pitch b d
@@ -62,8 +62,8 @@ block_is k s at v =
     let r = plane_extent k s at v cr in
     let first : min l.first (min b.first r.first) ≡ min l.first b.first = omega (arith, begins) in
     let end : max l.end (max b.end r.end) ≡ max l.end r.end = omega (arith, ends) in
-    ap (joined l) (join-both b r (omega arith) (omega arith))
-    ∙ join-both l (between (min b.first r.first) (max b.end r.end)) (omega arith) (omega arith)
+    ap (joined l) (join_both b r (omega arith) (omega arith))
+    ∙ join_both l (between (min b.first r.first) (max b.end r.end)) (omega arith) (omega arith)
     ∙ ap₂ between first end
 
 -- ---- where the luma block lies inside, each plane's block does
@@ -100,61 +100,61 @@ module _ (k : Structure) (s : Surface) (g : Grid) (at : Position) (v : Vector) (
   rows : (p : Plane) → inside (rows_in k p) at.row g.rows (component_in p v.y) ≡ true
   rows = rows_inside k at.row g.rows v.y (tests k g at v t).1
 
-  plane-below : (p : Plane) (byte : ℕ) → OccupiesIn k p s at v byte → byte < (plane_extent k s at v p).end
-  plane-below p byte o =
-      let x = up-to-last (columns_in p) at.column g.columns (component_in p v.x) (columns p) o.x o.in_columns in
-      let y = up-to-last (rows_in k p) at.row g.rows (component_in p v.y) (rows p) o.y o.in_rows in
+  plane_below : (p : Plane) (byte : ℕ) → OccupiesIn k p s at v byte → byte < (plane_extent k s at v p).end
+  plane_below p byte o =
+      let x = up_to_last (columns_in p) at.column g.columns (component_in p v.x) (columns p) o.x o.in_columns in
+      let y = up_to_last (rows_in k p) at.row g.rows (component_in p v.y) (rows p) o.y o.in_rows in
       omega (arith, sample_grows s p wide x (row_grows k y), o.stands)
 
-  plane-from : (p : Plane) (byte : ℕ) → OccupiesIn k p s at v byte → (plane_extent k s at v p).first ≤ byte
-  plane-from p byte o =
+  plane_from : (p : Plane) (byte : ℕ) → OccupiesIn k p s at v byte → (plane_extent k s at v p).first ≤ byte
+  plane_from p byte o =
       let x = from_first (columns_in p) at.column g.columns (component_in p v.x) (columns p) o.x o.in_columns in
       let y = from_first (rows_in k p) at.row g.rows (component_in p v.y) (rows p) o.y o.in_rows in
       omega (arith, sample_grows s p wide x (row_grows k y), o.stands)
 
-  last-sample : (p : Plane) → OccupiesIn k p s at v (last_byte k s at v p)
-  last-sample p =
+  last_sample : (p : Plane) → OccupiesIn k p s at v (last_byte k s at v p)
+  last_sample p =
       record {
         x = last_of (columns_in p) at.column (component_in p v.x);
         y = last_of (rows_in k p) at.row (component_in p v.y);
-        in_columns = last-covered (columns_in p) at.column g.columns (component_in p v.x) (columns_pos p) (columns p);
-        in_rows = last-covered (rows_in k p) at.row g.rows (component_in p v.y) (rows_pos k p) (rows p);
+        in_columns = last_covered (columns_in p) at.column g.columns (component_in p v.x) (columns_pos p) (columns p);
+        in_rows = last_covered (rows_in k p) at.row g.rows (component_in p v.y) (rows_pos k p) (rows p);
         stands = refl;
       }
 
-  first-sample : (p : Plane) → OccupiesIn k p s at v (first_byte k s at v p)
-  first-sample p =
+  first_sample : (p : Plane) → OccupiesIn k p s at v (first_byte k s at v p)
+  first_sample p =
       record {
         x = start_of (columns_in p) at.column (component_in p v.x);
         y = start_of (rows_in k p) at.row (component_in p v.y);
-        in_columns = first-covered (columns_in p) at.column g.columns (component_in p v.x) (columns_pos p) (columns p);
-        in_rows = first-covered (rows_in k p) at.row g.rows (component_in p v.y) (rows_pos k p) (rows p);
+        in_columns = first_covered (columns_in p) at.column g.columns (component_in p v.x) (columns_pos p) (columns p);
+        in_rows = first_covered (rows_in k p) at.row g.rows (component_in p v.y) (rows_pos k p) (rows p);
         stands = refl;
       }
 
-  plane-exact : (p : Plane) → Exact (OccupiesIn k p s at v) (plane_extent k s at v p)
-  plane-exact p =
+  plane_exact : (p : Plane) → Exact (OccupiesIn k p s at v) (plane_extent k s at v p)
+  plane_exact p =
       record {
-        below = plane-below p;
-        reached = λ h. (_, last-sample p, refl);
-        from = plane-from p;
-        begun = λ h. first-sample p;
+        below = plane_below p;
+        reached = λ h. (_, last_sample p, refl);
+        from = plane_from p;
+        begun = λ h. first_sample p;
         untouched = λ e. absurd (omega arith);
       }
 
-  pub extent-exact : Exact (Occupies k s at v) (block_extent k s at v)
+  pub extent_exact : Exact (Occupies k s at v) (block_extent k s at v)
   unfolding block_extent
-  extent-exact = exact_same joins parts (join_exact (plane-exact luma) (join_exact (plane-exact cb) (plane-exact cr)))
+  extent_exact = exact_same joins parts (join_exact (plane_exact luma) (join_exact (plane_exact cb) (plane_exact cr)))
     where
       joins : (byte : ℕ) → OccupiesIn k luma s at v byte ⊎ (OccupiesIn k cb s at v byte ⊎ OccupiesIn k cr s at v byte) → Occupies k s at v byte
       joins byte (inl o) = (luma, o)
       joins byte (inr (inl o)) = (cb, o)
       joins byte (inr (inr o)) = (cr, o)
 
-      in-part : (byte : ℕ) (p : Plane) → OccupiesIn k p s at v byte → OccupiesIn k luma s at v byte ⊎ (OccupiesIn k cb s at v byte ⊎ OccupiesIn k cr s at v byte)
-      in-part byte luma o = inl o
-      in-part byte cb o = inr (inl o)
-      in-part byte cr o = inr (inr o)
+      in_part : (byte : ℕ) (p : Plane) → OccupiesIn k p s at v byte → OccupiesIn k luma s at v byte ⊎ (OccupiesIn k cb s at v byte ⊎ OccupiesIn k cr s at v byte)
+      in_part byte luma o = inl o
+      in_part byte cb o = inr (inl o)
+      in_part byte cr o = inr (inr o)
 
       parts : (byte : ℕ) → Occupies k s at v byte → OccupiesIn k luma s at v byte ⊎ (OccupiesIn k cb s at v byte ⊎ OccupiesIn k cr s at v byte)
-      parts byte o = in-part byte o.0 o.1
+      parts byte o = in_part byte o.0 o.1

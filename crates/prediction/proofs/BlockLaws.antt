@@ -19,9 +19,9 @@ use Rattle.prediction.specs.declared.Position.{Position}
 use Rattle.prediction.specs.declared.Extent.{Extent}
 use Rattle.prediction.specs.declared.Block.TheVariants.{Outside, Inside}
 use Rattle.prediction.proofs.Integers.{pos_sub}
-use Rattle.prediction.proofs.Components.{inside-holds}
-use Rattle.prediction.proofs.SpanLaws.{inside-within, within-inside}
-use Rattle.prediction.proofs.BlockBytes.{tests, rows_pos, block_is, extent-exact}
+use Rattle.prediction.proofs.Components.{inside_holds}
+use Rattle.prediction.proofs.SpanLaws.{inside_within, within_inside}
+use Rattle.prediction.proofs.BlockBytes.{tests, rows_pos, block_is, extent_exact}
 
 -- an answer that is inside: the test holds, and the extent is the block's
 pub answer : (t : Bool) (full e : Extent) → cond t (Inside full) Outside ≡ Inside e → (t ≡ true) × (full ≡ e)
@@ -33,7 +33,7 @@ pub block_exact : (k : Structure) (s : Surface) (g : Grid) (at : Position) (v : 
 unfolding block_at
 block_exact k s g at v e wide h =
     let a = answer (block_inside k g at v) (block_extent k s at v) e h in
-    subst (Exact (Occupies k s at v)) a.1 (extent-exact k s g at v wide a.0)
+    subst (Exact (Occupies k s at v)) a.1 (extent_exact k s g at v wide a.0)
 
 -- A block that lies inside touches some byte.
 pub block_touches : (k : Structure) (s : Surface) (g : Grid) (at : Position) (v : Vector) (e : Extent) → block_at k s g at v ≡ Inside e → 0 < e.end
@@ -51,12 +51,12 @@ inside_exactly k s g at v = (only, all)
     only : ((e : Extent) × (block_at k s g at v ≡ Inside e)) → InPicture k g at v
     only h =
         let t = tests k g at v (answer (block_inside k g at v) (block_extent k s at v) h.0 h.1).0 in
-        (inside-within 16 at.column g.columns v.x t.0, inside-within (rows_in k luma) at.row g.rows v.y t.1)
+        (inside_within 16 at.column g.columns v.x t.0, inside_within (rows_in k luma) at.row g.rows v.y t.1)
 
     all : InPicture k g at v → (e : Extent) × (block_at k s g at v ≡ Inside e)
     all w =
-        let x = within-inside 16 at.column g.columns v.x (omega arith) w.0 in
-        let y = within-inside (rows_in k luma) at.row g.rows v.y (rows_pos k luma) w.1 in
+        let x = within_inside 16 at.column g.columns v.x (omega arith) w.0 in
+        let y = within_inside (rows_in k luma) at.row g.rows v.y (rows_pos k luma) w.1 in
         (block_extent k s at v, ap (λ (t : Bool). cond t (Inside (block_extent k s at v)) Outside) (ap₂ ◌&&◌ x y))
 
 -- A macroblock's own samples lie inside.
@@ -68,4 +68,4 @@ own_inside s g at hx hy = (
 )
   where
     here : (place n : ℕ) → place < n → inside 16 place n (pos 0) ≡ true
-    here place n h = ap (inside 16 place n) (pos_sub 0) ∙ inside-holds 16 place 0 0 n (omega arith) (omega arith)
+    here place n h = ap (inside 16 place n) (pos_sub 0) ∙ inside_holds 16 place 0 0 n (omega arith) (omega arith)

@@ -22,19 +22,19 @@ in_limit b l =
     (ap (lt_z (sub_ℕ b 32768)) (pos_sub l) ∙ lt_sums b 32768 l 0 ∙ ap₂ ltb right swap)
 
 module _ (size c b p : ℕ) (hs : 0 < size) (hb : b < 65536) (ep : p ≡ c - 1) where
-  pub code-test : in_range size c (sub_ℕ b 32768) ≡ (leb 32768 (b + size * 2 ^ p) && ltb b (32768 + size * 2 ^ p))
-  code-test = in_limit b (size * 2 ^ (c - 1)) ∙ ap (λ (n : ℕ). leb 32768 (b + size * 2 ^ n) && ltb b (32768 + size * 2 ^ n)) (sym ep)
+  pub code_test : in_range size c (sub_ℕ b 32768) ≡ (leb 32768 (b + size * 2 ^ p) && ltb b (32768 + size * 2 ^ p))
+  code_test = in_limit b (size * 2 ^ (c - 1)) ∙ ap (λ (n : ℕ). leb 32768 (b + size * 2 ^ n) && ltb b (32768 + size * 2 ^ n)) (sym ep)
 
   -- a code whose range holds every component
-  pub code-wide : 16 ≤ p → in_range size c (sub_ℕ b 32768) ≡ true
-  code-wide h =
+  pub code_wide : 16 ≤ p → in_range size c (sub_ℕ b 32768) ≡ true
+  code_wide h =
       let l : 1 * 65536 ≤ size * 2 ^ p = mul-le-mul hs (pow_mono {i = 16} {j = p} h) in
-      code-test ∙ ap₂ ◌&&◌ (le-leb 32768 (b + size * 2 ^ p) (omega arith)) (lt-ltb b (32768 + size * 2 ^ p) (omega arith))
+      code_test ∙ ap₂ ◌&&◌ (le-leb 32768 (b + size * 2 ^ p) (omega arith)) (lt-ltb b (32768 + size * 2 ^ p) (omega arith))
 
   -- with l for the limit as the code shifts it, and the outcome of the first half
   pub code_by : (l : ℕ) → l ≡ size * 2 ^ p → (t : Bool) → leb 32768 (b + l) ≡ t → in_range size c (sub_ℕ b 32768) ≡ (t && ltb b (32768 + l))
   code_by l e t h =
-      code-test
+      code_test
       ∙ ap (λ (n : ℕ). leb 32768 (b + n) && ltb b (32768 + n)) (sym e)
       ∙ ap (λ (u : Bool). u && ltb b (32768 + l)) h
 

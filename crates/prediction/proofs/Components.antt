@@ -10,12 +10,12 @@ use lib.IntN.{ℤ, pos, negsuc, nat_abs, sub_ℕ, ◌+ℤ◌}
 use lib.Signed.{mag, shr_z, le_z, ◌≤ℤ◌, ◌<ℤ◌}
 use Rattle.prediction.specs.Spans.{first_of, count_of, end_of, inside, halved, Covers}
 use Rattle.prediction.specs.Blocks.{start_of, last_of}
-use Rattle.prediction.proofs.Integers.{split, sub_pos, sub_neg, pos_sub, add_sub, sub_add, neg_sub, le_sums, le-means, le-holds, lt-means, lt-holds, both}
+use Rattle.prediction.proofs.Integers.{split, sub_pos, sub_neg, pos_sub, add_sub, sub_add, neg_sub, le_sums, le_means, le_holds, lt_means, lt_holds, both}
 
 module _ (b k : ℕ) where
   -- the floor of the half
-  pub floor-half : shr_z (sub_ℕ b (2 * k)) 2 ≡ sub_ℕ (b / 2) k
-  floor-half = by (split b (2 * k))
+  pub floor_half : shr_z (sub_ℕ b (2 * k)) 2 ≡ sub_ℕ (b / 2) k
+  floor_half = by (split b (2 * k))
     where
       by : (b < 2 * k) ⊎ (2 * k ≤ b) → shr_z (sub_ℕ b (2 * k)) 2 ≡ sub_ℕ (b / 2) k
       by (inl h) =
@@ -33,32 +33,32 @@ module _ (b k : ℕ) where
       by (inr h) = ap (λ (z : ℤ). nat_abs z % 2) (sub_pos b (2 * k) h) ∙ omega arith
 
   -- halved towards zero, by the sign
-  pub half-below : b < 2 * k → halved (sub_ℕ b (2 * k)) ≡ sub_ℕ ((b + 1) / 2 + k) (2 * k)
-  half-below h =
+  pub half_below : b < 2 * k → halved (sub_ℕ b (2 * k)) ≡ sub_ℕ ((b + 1) / 2 + k) (2 * k)
+  half_below h =
       let e : 2 * k - suc (2 * k - suc b) / 2 ≡ (b + 1) / 2 + k = omega arith in
       ap halved (sub_neg b (2 * k) h) ∙ neg_sub (suc (2 * k - suc b) / 2) (2 * k) (omega arith) ∙ ap (λ (n : ℕ). sub_ℕ n (2 * k)) e
 
-  pub half-above : 2 * k ≤ b → halved (sub_ℕ b (2 * k)) ≡ sub_ℕ (b / 2 + k) (2 * k)
-  half-above h =
+  pub half_above : 2 * k ≤ b → halved (sub_ℕ b (2 * k)) ≡ sub_ℕ (b / 2 + k) (2 * k)
+  half_above h =
       let e : (b - 2 * k) / 2 ≡ b / 2 + k - 2 * k = omega arith in
       ap halved (sub_pos b (2 * k) h) ∙ ap pos e ∙ sym (sub_pos (b / 2 + k) (2 * k) (omega arith))
 
 -- a block of size samples at a place
 module _ (size place b k : ℕ) where
-  pub first-is : first_of size place (sub_ℕ b (2 * k)) ≡ sub_ℕ (size * place + b / 2) k
-  first-is = ap (λ (z : ℤ). pos (size * place) +ℤ z) (floor-half b k) ∙ add_sub (size * place) (b / 2) k
+  pub first_is : first_of size place (sub_ℕ b (2 * k)) ≡ sub_ℕ (size * place + b / 2) k
+  first_is = ap (λ (z : ℤ). pos (size * place) +ℤ z) (floor_half b k) ∙ add_sub (size * place) (b / 2) k
 
-  pub count-is : count_of size (sub_ℕ b (2 * k)) ≡ size + b % 2
-  count-is = ap (λ (n : ℕ). size + n) (odd b k)
+  pub count_is : count_of size (sub_ℕ b (2 * k)) ≡ size + b % 2
+  count_is = ap (λ (n : ℕ). size + n) (odd b k)
 
   pub end_is : end_of size place (sub_ℕ b (2 * k)) ≡ sub_ℕ (size * place + b / 2 + (size + b % 2)) k
-  end_is = ap₂ (λ (z : ℤ) (n : ℕ). z +ℤ pos n) first-is count-is ∙ sub_add (size + b % 2) (size * place + b / 2) k
+  end_is = ap₂ (λ (z : ℤ) (n : ℕ). z +ℤ pos n) first_is count_is ∙ sub_add (size + b % 2) (size * place + b / 2) k
 
   -- the inside test, in ℕ
   pub inside_is : (n : ℕ) → inside size place n (sub_ℕ b (2 * k)) ≡ (leb k (size * place + b / 2) && leb (size * place + b / 2 + (size + b % 2)) (size * n + k))
   inside_is n =
       ap₂ ◌&&◌
-      (ap₂ le_z (pos_sub 0) first-is ∙ le_sums 0 0 (size * place + b / 2) k ∙ ap₂ leb zero_left zero_right)
+      (ap₂ le_z (pos_sub 0) first_is ∙ le_sums 0 0 (size * place + b / 2) k ∙ ap₂ leb zero_left zero_right)
       (ap₂ le_z end_is (pos_sub (size * n)) ∙ le_sums (size * place + b / 2 + (size + b % 2)) k (size * n) 0 ∙ ap (λ (m : ℕ). leb m (size * n + k)) zero-last)
     where
       zero_left : 0 + k ≡ k
@@ -71,34 +71,34 @@ module _ (size place b k : ℕ) where
       zero-last = omega arith
 
   -- with the outcome of its first half
-  pub inside-by : (n : ℕ) (t : Bool) → leb k (size * place + b / 2) ≡ t → inside size place n (sub_ℕ b (2 * k)) ≡ (t && leb (size * place + b / 2 + (size + b % 2)) (size * n + k))
-  inside-by n t e = inside_is n ∙ ap (λ (u : Bool). u && leb (size * place + b / 2 + (size + b % 2)) (size * n + k)) e
+  pub inside_by : (n : ℕ) (t : Bool) → leb k (size * place + b / 2) ≡ t → inside size place n (sub_ℕ b (2 * k)) ≡ (t && leb (size * place + b / 2 + (size + b % 2)) (size * n + k))
+  inside_by n t e = inside_is n ∙ ap (λ (u : Bool). u && leb (size * place + b / 2 + (size + b % 2)) (size * n + k)) e
 
-  pub inside-means : (n : ℕ) → inside size place n (sub_ℕ b (2 * k)) ≡ true → (k ≤ size * place + b / 2) × (size * place + b / 2 + (size + b % 2) ≤ size * n + k)
-  inside-means n t =
+  pub inside_means : (n : ℕ) → inside size place n (sub_ℕ b (2 * k)) ≡ true → (k ≤ size * place + b / 2) × (size * place + b / 2 + (size + b % 2) ≤ size * n + k)
+  inside_means n t =
       let two = both (leb k (size * place + b / 2)) (leb (size * place + b / 2 + (size + b % 2)) (size * n + k)) (sym (inside_is n) ∙ t) in
       (leb-true k (size * place + b / 2) two.0, leb-true (size * place + b / 2 + (size + b % 2)) (size * n + k) two.1)
 
-  pub inside-holds : (n : ℕ) → k ≤ size * place + b / 2 → size * place + b / 2 + (size + b % 2) ≤ size * n + k → inside size place n (sub_ℕ b (2 * k)) ≡ true
-  inside-holds n h l = inside_is n ∙ ap₂ ◌&&◌ (le-leb k (size * place + b / 2) h) (le-leb (size * place + b / 2 + (size + b % 2)) (size * n + k) l)
+  pub inside_holds : (n : ℕ) → k ≤ size * place + b / 2 → size * place + b / 2 + (size + b % 2) ≤ size * n + k → inside size place n (sub_ℕ b (2 * k)) ≡ true
+  inside_holds n h l = inside_is n ∙ ap₂ ◌&&◌ (le-leb k (size * place + b / 2) h) (le-leb (size * place + b / 2 + (size + b % 2)) (size * n + k) l)
 
   -- the samples that the block covers, in ℕ: sample i is c - j
-  pub covers-means : (c j : ℕ) → Covers size place (sub_ℕ b (2 * k)) (sub_ℕ c j) → (size * place + b / 2 + j ≤ c + k) × (c + k < size * place + b / 2 + (size + b % 2) + j)
-  covers-means c j h = (
-    le-means (size * place + b / 2) k c j (subst (λ (z : ℤ). z ≤ℤ sub_ℕ c j) first-is h.from),
-    lt-means c j (size * place + b / 2 + (size + b % 2)) k (subst (λ (z : ℤ). sub_ℕ c j <ℤ z) end_is h.to),
+  pub covers_means : (c j : ℕ) → Covers size place (sub_ℕ b (2 * k)) (sub_ℕ c j) → (size * place + b / 2 + j ≤ c + k) × (c + k < size * place + b / 2 + (size + b % 2) + j)
+  covers_means c j h = (
+    le_means (size * place + b / 2) k c j (subst (λ (z : ℤ). z ≤ℤ sub_ℕ c j) first_is h.from),
+    lt_means c j (size * place + b / 2 + (size + b % 2)) k (subst (λ (z : ℤ). sub_ℕ c j <ℤ z) end_is h.to),
   )
 
-  pub covers-holds : (c j : ℕ) → size * place + b / 2 + j ≤ c + k → c + k < size * place + b / 2 + (size + b % 2) + j → Covers size place (sub_ℕ b (2 * k)) (sub_ℕ c j)
-  covers-holds c j h l =
+  pub covers_holds : (c j : ℕ) → size * place + b / 2 + j ≤ c + k → c + k < size * place + b / 2 + (size + b % 2) + j → Covers size place (sub_ℕ b (2 * k)) (sub_ℕ c j)
+  covers_holds c j h l =
       record {
-        from = subst (λ (z : ℤ). z ≤ℤ sub_ℕ c j) (sym first-is) (le-holds (size * place + b / 2) k c j h);
-        to = subst (λ (z : ℤ). sub_ℕ c j <ℤ z) (sym end_is) (lt-holds c j (size * place + b / 2 + (size + b % 2)) k l);
+        from = subst (λ (z : ℤ). z ≤ℤ sub_ℕ c j) (sym first_is) (le_holds (size * place + b / 2) k c j h);
+        to = subst (λ (z : ℤ). sub_ℕ c j <ℤ z) (sym end_is) (lt_holds c j (size * place + b / 2 + (size + b % 2)) k l);
       }
 
 -- the first and the last sample of a block that starts at 0 or above
 pub start_is : (size place b k : ℕ) → k ≤ size * place + b / 2 → start_of size place (sub_ℕ b (2 * k)) ≡ size * place + b / 2 - k
-start_is size place b k h = ap nat_abs (first-is size place b k ∙ sub_pos (size * place + b / 2) k h)
+start_is size place b k h = ap nat_abs (first_is size place b k ∙ sub_pos (size * place + b / 2) k h)
 
 pub last_is : (size place b k : ℕ) → k ≤ size * place + b / 2 → last_of size place (sub_ℕ b (2 * k)) ≡ size * place + b / 2 + (size + b % 2) - k - 1
 last_is size place b k h =

@@ -20,38 +20,38 @@ module _ (a b : Extent) where
   abbrev by_tests : Bool → Bool → Extent
   by_tests none_right none_left = cond none_right a (cond none_left b (between (min a.first b.first) (max a.end b.end)))
 
-  pub join-right : b.end ≡ 0 → joined a b ≡ a
+  pub join_right : b.end ≡ 0 → joined a b ≡ a
   unfolding joined
-  join-right e = ap (λ (t : Bool). by_tests t (eqb a.end 0)) (eq-eqb b.end 0 e)
+  join_right e = ap (λ (t : Bool). by_tests t (eqb a.end 0)) (eq-eqb b.end 0 e)
 
-  pub join-left : 0 < b.end → a.end ≡ 0 → joined a b ≡ b
+  pub join_left : 0 < b.end → a.end ≡ 0 → joined a b ≡ b
   unfolding joined
-  join-left h e = ap₂ by_tests (ne_eqb b.end 0 (λ z. omega arith)) (eq-eqb a.end 0 e)
+  join_left h e = ap₂ by_tests (ne_eqb b.end 0 (λ z. omega arith)) (eq-eqb a.end 0 e)
 
-  pub join-both : 0 < a.end → 0 < b.end → joined a b ≡ between (min a.first b.first) (max a.end b.end)
+  pub join_both : 0 < a.end → 0 < b.end → joined a b ≡ between (min a.first b.first) (max a.end b.end)
   unfolding joined
-  join-both h k = ap₂ by_tests (ne_eqb b.end 0 (λ z. omega arith)) (ne_eqb a.end 0 (λ z. omega arith))
+  join_both h k = ap₂ by_tests (ne_eqb b.end 0 (λ z. omega arith)) (ne_eqb a.end 0 (λ z. omega arith))
 
   -- The end of a join does not ask what is touched.
-  pub join-end : (joined a b).end ≡ max a.end b.end
-  join-end = by (eq-zero-or-pos b.end) (eq-zero-or-pos a.end)
+  pub join_end : (joined a b).end ≡ max a.end b.end
+  join_end = by (eq-zero-or-pos b.end) (eq-zero-or-pos a.end)
     where
       by : (b.end ≡ 0) ⊎ (0 < b.end) → (a.end ≡ 0) ⊎ (0 < a.end) → (joined a b).end ≡ max a.end b.end
-      by (inl z) t = ap (λ (x : Extent). x.end) (join-right z) ∙ omega arith
-      by (inr k) (inl z) = ap (λ (x : Extent). x.end) (join-left k z) ∙ omega arith
-      by (inr k) (inr h) = ap (λ (x : Extent). x.end) (join-both h k)
+      by (inl z) t = ap (λ (x : Extent). x.end) (join_right z) ∙ omega arith
+      by (inr k) (inl z) = ap (λ (x : Extent). x.end) (join_left k z) ∙ omega arith
+      by (inr k) (inr h) = ap (λ (x : Extent). x.end) (join_both h k)
 
   -- What touches nothing after a join has not been changed by it.
-  pub join-nothing : (joined a b).end ≡ 0 → joined a b ≡ a
-  join-nothing z = join-right (omega (arith, join-end))
+  pub join_nothing : (joined a b).end ≡ 0 → joined a b ≡ a
+  join_nothing z = join_right (omega (arith, join_end))
 
   -- A first byte that is no higher stays.
   pub join_first : 0 < a.end → a.first ≤ b.first → (joined a b).first ≡ a.first
   join_first h l = by (eq-zero-or-pos b.end)
     where
       by : (b.end ≡ 0) ⊎ (0 < b.end) → (joined a b).first ≡ a.first
-      by (inl z) = ap (λ (x : Extent). x.first) (join-right z)
-      by (inr k) = ap (λ (x : Extent). x.first) (join-both h k) ∙ omega arith
+      by (inl z) = ap (λ (x : Extent). x.first) (join_right z)
+      by (inr k) = ap (λ (x : Extent). x.first) (join_both h k) ∙ omega arith
 
 -- ---- what it is exact for
 pub empty_exact : Exact (λ (byte : ℕ). ⊥) empty_extent
@@ -118,9 +118,9 @@ join_exact {P} {Q} {a} {b} p q = by (eq-zero-or-pos b.end) (eq-zero-or-pos a.end
         low (inr l) = let e : b.first ≡ min a.first b.first = omega arith in inr (subst Q e (q.begun k))
 
     by : (b.end ≡ 0) ⊎ (0 < b.end) → (a.end ≡ 0) ⊎ (0 < a.end) → Exact Either (joined a b)
-    by (inl z) t = subst (Exact Either) (sym (join-right a b z)) (exact_same (λ byte h. inl h) (one z) p)
-    by (inr k) (inl z) = subst (Exact Either) (sym (join-left a b k z)) (exact_same (λ byte h. inr h) (other z) q)
-    by (inr k) (inr h) = subst (Exact Either) (sym (join-both a b h k)) (both h k)
+    by (inl z) t = subst (Exact Either) (sym (join_right a b z)) (exact_same (λ byte h. inl h) (one z) p)
+    by (inr k) (inl z) = subst (Exact Either) (sym (join_left a b k z)) (exact_same (λ byte h. inr h) (other z) q)
+    by (inr k) (inr h) = subst (Exact Either) (sym (join_both a b h k)) (both h k)
 
 -- One set of touched bytes has one exact extent.
 pub exact_once : {P : ℕ → Type 0} {e f : Extent} → Exact P e → Exact P f → e ≡ f
@@ -145,19 +145,19 @@ pub join_assoc : (a b c : Extent) → joined (joined a b) c ≡ joined a (joined
 join_assoc a b c = by (eq-zero-or-pos c.end) (eq-zero-or-pos b.end) (eq-zero-or-pos a.end)
   where
     by : (c.end ≡ 0) ⊎ (0 < c.end) → (b.end ≡ 0) ⊎ (0 < b.end) → (a.end ≡ 0) ⊎ (0 < a.end) → joined (joined a b) c ≡ joined a (joined b c)
-    by (inl z) t u = join-right (joined a b) c z ∙ ap (joined a) (sym (join-right b c z))
-    by (inr k) (inl z) u = ap (λ (x : Extent). joined x c) (join-right a b z) ∙ ap (joined a) (sym (join-left b c k z))
-    by (inr k) (inr h) (inl z) = ap (λ (x : Extent). joined x c) (join-left a b h z) ∙ sym (join-left a (joined b c) (omega (arith, join-end b c)) z)
+    by (inl z) t u = join_right (joined a b) c z ∙ ap (joined a) (sym (join_right b c z))
+    by (inr k) (inl z) u = ap (λ (x : Extent). joined x c) (join_right a b z) ∙ ap (joined a) (sym (join_left b c k z))
+    by (inr k) (inr h) (inl z) = ap (λ (x : Extent). joined x c) (join_left a b h z) ∙ sym (join_left a (joined b c) (omega (arith, join_end b c)) z)
     by (inr k) (inr h) (inr l) =
         let first : min (min a.first b.first) c.first ≡ min a.first (min b.first c.first) = omega arith in
         let end : max (max a.end b.end) c.end ≡ max a.end (max b.end c.end) = omega arith in
-        ap (λ (x : Extent). joined x c) (join-both a b l h)
-        ∙ join-both (between (min a.first b.first) (max a.end b.end)) c (omega arith) k
+        ap (λ (x : Extent). joined x c) (join_both a b l h)
+        ∙ join_both (between (min a.first b.first) (max a.end b.end)) c (omega arith) k
         ∙ ap₂ between first end
-        ∙ sym (join-both a (between (min b.first c.first) (max b.end c.end)) l (omega arith))
-        ∙ ap (joined a) (sym (join-both b c h k))
+        ∙ sym (join_both a (between (min b.first c.first) (max b.end c.end)) l (omega arith))
+        ∙ ap (joined a) (sym (join_both b c h k))
 
 -- No byte adds nothing.
 pub join_empty : (a : Extent) → joined a empty_extent ≡ a
 unfolding empty_extent
-join_empty a = join-right a empty_extent refl
+join_empty a = join_right a empty_extent refl

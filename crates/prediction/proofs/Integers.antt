@@ -103,17 +103,17 @@ pub lt_sums : (a b c d : ℕ) → lt_z (sub_ℕ a b) (sub_ℕ c d) ≡ ltb (a + 
 lt_sums a b c d = lt_z_not (sub_ℕ a b) (sub_ℕ c d) ∙ ap not (le_sums c d a b) ∙ sym (ltb_not (a + d) (c + b))
 
 module _ (a b c d : ℕ) where
-  pub le-means : sub_ℕ a b ≤ℤ sub_ℕ c d → a + d ≤ c + b
-  le-means h = leb→le (a + d) (c + b) (subst T (le_sums a b c d) h.le)
+  pub le_means : sub_ℕ a b ≤ℤ sub_ℕ c d → a + d ≤ c + b
+  le_means h = leb→le (a + d) (c + b) (subst T (le_sums a b c d) h.le)
 
-  pub le-holds : a + d ≤ c + b → sub_ℕ a b ≤ℤ sub_ℕ c d
-  le-holds h = record { le = subst T (sym (le_sums a b c d)) (le→leb (a + d) (c + b) h) }
+  pub le_holds : a + d ≤ c + b → sub_ℕ a b ≤ℤ sub_ℕ c d
+  le_holds h = record { le = subst T (sym (le_sums a b c d)) (le→leb (a + d) (c + b) h) }
 
-  pub lt-means : sub_ℕ a b <ℤ sub_ℕ c d → a + d < c + b
-  lt-means h = ltb→lt (a + d) (c + b) (subst T (lt_sums a b c d) h.lt)
+  pub lt_means : sub_ℕ a b <ℤ sub_ℕ c d → a + d < c + b
+  lt_means h = ltb→lt (a + d) (c + b) (subst T (lt_sums a b c d) h.lt)
 
-  pub lt-holds : a + d < c + b → sub_ℕ a b <ℤ sub_ℕ c d
-  lt-holds h = record { lt = subst T (sym (lt_sums a b c d)) (lt→ltb (a + d) (c + b) h) }
+  pub lt_holds : a + d < c + b → sub_ℕ a b <ℤ sub_ℕ c d
+  lt_holds h = record { lt = subst T (sym (lt_sums a b c d)) (lt→ltb (a + d) (c + b) h) }
 
 -- two tests that both hold, and two of which one does
 pub both : (p q : Bool) → (p && q) ≡ true → (p ≡ true) × (q ≡ true)

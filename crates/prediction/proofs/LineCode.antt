@@ -26,7 +26,7 @@ use Rattle.prediction.specs.declared.Position.{Position}
 use Rattle.prediction.specs.declared.Line.{Line}
 use Rattle.prediction.specs.declared.Extent.{Extent}
 use Rattle.prediction.proofs.Integers.{split, pos_sub, add_sub, le_sums, both, product_le}
-use Rattle.prediction.proofs.Components.{half-below, half-above, first-is, start_at, last_at}
+use Rattle.prediction.proofs.Components.{half_below, half_above, first_is, start_at, last_at}
 use Rattle.prediction.proofs.TwosComplement.{pair}
 use Rattle.prediction.proofs.BlockBytes.{half_pos, rows_pos, block_is}
 
@@ -44,17 +44,17 @@ pub record Fits (size : ℕ) (l : Line) (place b : ℕ) : Type 0 where
   pub last : 2 * (size * place) + b ≤ 2 * (size * l.last) + 32768
 
 module _ (size : ℕ) (l : Line) (place b : ℕ) where
-  line-test : in_line size l place (sub_ℕ b 32768)
+  line_test : in_line size l place (sub_ℕ b 32768)
       ≡ ((leb (l.low + 32768) (b + 32768) && leb (b + 32768) (l.low + l.span + 32768))
       && (leb (0 + 32768) (2 * (size * place) + b + 0) && leb (2 * (size * place) + b + 0) (2 * (size * l.last) + 32768)))
-  line-test =
+  line_test =
       ap₂ ◌&&◌ (ap₂ ◌&&◌ (le_sums l.low 32768 b 32768) (le_sums b 32768 (l.low + l.span) 32768))
       (ap₂ ◌&&◌ (ap₂ le_z (pos_sub 0) (add_sub (2 * (size * place)) b 32768) ∙ le_sums 0 0 (2 * (size * place) + b) 32768)
       (ap₂ le_z (add_sub (2 * (size * place)) b 32768) (pos_sub (2 * (size * l.last))) ∙ le_sums (2 * (size * place) + b) 32768 (2 * (size * l.last)) 0))
 
-  pub line-means : in_line size l place (sub_ℕ b 32768) ≡ true → Fits size l place b
-  line-means t =
-      let two = both (leb (l.low + 32768) (b + 32768) && leb (b + 32768) (l.low + l.span + 32768)) _ (sym line-test ∙ t) in
+  pub line_means : in_line size l place (sub_ℕ b 32768) ≡ true → Fits size l place b
+  line_means t =
+      let two = both (leb (l.low + 32768) (b + 32768) && leb (b + 32768) (l.low + l.span + 32768)) _ (sym line_test ∙ t) in
       let code = both (leb (l.low + 32768) (b + 32768)) _ two.0 in
       let place' = both (leb (0 + 32768) (2 * (size * place) + b + 0)) _ two.1 in
       record {
@@ -64,9 +64,9 @@ module _ (size : ℕ) (l : Line) (place b : ℕ) where
         last = omega (arith, leb-true (2 * (size * place) + b + 0) (2 * (size * l.last) + 32768) place'.1);
       }
 
-  pub line-holds : Fits size l place b → in_line size l place (sub_ℕ b 32768) ≡ true
-  line-holds f =
-      line-test
+  pub line_holds : Fits size l place b → in_line size l place (sub_ℕ b 32768) ≡ true
+  line_holds f =
+      line_test
       ∙ ap₂ ◌&&◌ (ap₂ ◌&&◌ (le-leb (l.low + 32768) (b + 32768) (omega arith)) (le-leb (b + 32768) (l.low + l.span + 32768) (omega arith)))
       (ap₂ ◌&&◌ (le-leb (0 + 32768) (2 * (size * place) + b + 0) (omega arith)) (le-leb (2 * (size * place) + b + 0) (2 * (size * l.last) + 32768) (omega arith)))
 
@@ -77,7 +77,7 @@ unequal t = let z : ◌≡◌ {A = ℕ} 0 1 = cc in omega arith
 module _ (size : ℕ) (l : Line) (place b : ℕ) (hb : b < 65536) where
   pub far : (r : ℕ) → l.low < 65536 → l.span < 65536 → r < 2 ^ 32 → (r + l.low) % 2 ^ 32 ≡ b → l.span < r → false ≡ in_line size l place (sub_ℕ b 32768)
   far r hl hs hr e h =
-      same false (in_line size l place (sub_ℕ b 32768)) (λ t. absurd (unequal (sym t))) (λ t. absurd (let f = line-means size l place b t in omega arith))
+      same false (in_line size l place (sub_ℕ b 32768)) (λ t. absurd (unequal (sym t))) (λ t. absurd (let f = line_means size l place b t in omega arith))
 
   pub near : (r u : ℕ)
       → l.low < 65536
@@ -92,8 +92,8 @@ module _ (size : ℕ) (l : Line) (place b : ℕ) (hb : b < 65536) where
       → leb u (2 * (size * l.last)) ≡ in_line size l place (sub_ℕ b 32768)
   near r u hl hs hn hp hr hu e h s =
       same (leb u (2 * (size * l.last))) (in_line size l place (sub_ℕ b 32768))
-      (λ t. line-holds size l place b (let k = leb-true u (2 * (size * l.last)) t in record { from = omega arith; to = omega arith; first = omega arith; last = omega arith }))
-      (λ t. let f = line-means size l place b t in le-leb u (2 * (size * l.last)) (omega arith))
+      (λ t. line_holds size l place b (let k = leb-true u (2 * (size * l.last)) t in record { from = omega arith; to = omega arith; first = omega arith; last = omega arith }))
+      (λ t. let f = line_means size l place b t in le-leb u (2 * (size * l.last)) (omega arith))
 
 -- ---- as the code counts a block that starts u half samples from the edge: its first and last luma and chroma samples
 pub luma_from : (size place b u r : ℕ) → u + 32768 ≡ 2 * (size * place) + b → r ≡ u / 2 → r ≡ start_of size place (sub_ℕ b 32768)
@@ -117,34 +117,34 @@ last_sum m half c n r hs e f = omega (arith, rounded_up c)
 
 -- a chroma block has half as many samples
 module _ (half place b u r : ℕ) (hb : b < 65536) (s : u + 32768 ≡ 2 * (2 * half * place) + b) where
-  half-start : u + 32768 ≡ 4 * (half * place) + b
-  half-start = omega (arith, s, mul_assoc 2 half place)
+  half_start : u + 32768 ≡ 4 * (half * place) + b
+  half_start = omega (arith, s, mul_assoc 2 half place)
 
-  pub chroma-from : r ≡ (u + (1 - b / 32768)) / 4 → r ≡ start_of half place (halved (sub_ℕ b 32768))
-  chroma-from e = by (split b 32768)
+  pub chroma_from : r ≡ (u + (1 - b / 32768)) / 4 → r ≡ start_of half place (halved (sub_ℕ b 32768))
+  chroma_from e = by (split b 32768)
     where
       by : (b < 32768) ⊎ (32768 ≤ b) → r ≡ start_of half place (halved (sub_ℕ b 32768))
-      by (inl h) = start_at half place ((b + 1) / 2 + 16384) r (omega (arith, half-start)) (omega (arith, half-start)) ∙ ap (start_of half place) (sym (half-below b 16384 h))
-      by (inr h) = start_at half place (b / 2 + 16384) r (omega (arith, half-start)) (omega (arith, half-start)) ∙ ap (start_of half place) (sym (half-above b 16384 h))
+      by (inl h) = start_at half place ((b + 1) / 2 + 16384) r (omega (arith, half_start)) (omega (arith, half_start)) ∙ ap (start_of half place) (sym (half_below b 16384 h))
+      by (inr h) = start_at half place (b / 2 + 16384) r (omega (arith, half_start)) (omega (arith, half_start)) ∙ ap (start_of half place) (sym (half_above b 16384 h))
 
-  pub chroma-at : 0 < half → r ≡ (u + (1 - b / 32768) + 2) / 4 + (half - 1) → r ≡ last_of half place (halved (sub_ℕ b 32768))
-  chroma-at hs e = by (split b 32768)
+  pub chroma_at : 0 < half → r ≡ (u + (1 - b / 32768) + 2) / 4 + (half - 1) → r ≡ last_of half place (halved (sub_ℕ b 32768))
+  chroma_at hs e = by (split b 32768)
     where
       by : (b < 32768) ⊎ (32768 ≤ b) → r ≡ last_of half place (halved (sub_ℕ b 32768))
       by (inl h) =
           let sign : 1 - b / 32768 ≡ 1 = omega (arith, h) in
           let c = (b + 1) / 2 + 16384 in
-          let from : 16384 ≤ half * place + c / 2 = omega (arith, half-start) in
+          let from : 16384 ≤ half * place + c / 2 = omega (arith, half_start) in
           last_at half place c r from
-          (last_sum (half * place) half c ((u + 1 + 2) / 4) r hs (last_below (half * place) b u half-start) (e ∙ ap (λ (n : ℕ). (u + n + 2) / 4 + (half - 1)) sign))
-          ∙ ap (last_of half place) (sym (half-below b 16384 h))
+          (last_sum (half * place) half c ((u + 1 + 2) / 4) r hs (last_below (half * place) b u half_start) (e ∙ ap (λ (n : ℕ). (u + n + 2) / 4 + (half - 1)) sign))
+          ∙ ap (last_of half place) (sym (half_below b 16384 h))
       by (inr h) =
           let sign : 1 - b / 32768 ≡ 0 = omega (arith, h) in
           let c = b / 2 + 16384 in
-          let from : 16384 ≤ half * place + c / 2 = omega (arith, half-start) in
+          let from : 16384 ≤ half * place + c / 2 = omega (arith, half_start) in
           last_at half place c r from
-          (last_sum (half * place) half c ((u + 0 + 2) / 4) r hs (last_above (half * place) b u half-start) (e ∙ ap (λ (n : ℕ). (u + n + 2) / 4 + (half - 1)) sign))
-          ∙ ap (last_of half place) (sym (half-above b 16384 h))
+          (last_sum (half * place) half c ((u + 0 + 2) / 4) r hs (last_above (half * place) b u half_start) (e ∙ ap (λ (n : ℕ). (u + n + 2) / 4 + (half - 1)) sign))
+          ∙ ap (last_of half place) (sym (half_above b 16384 h))
 
 -- ---- both ends of a block that starts u and v half samples from the edges: a and b are its luma column and row, c and d the chroma ones
 module _ (k : Structure) (s : Surface) (at : Position) (x y u v a b c d : ℕ) (hx : x < 65536) (hy : y < 65536)
@@ -152,30 +152,30 @@ module _ (k : Structure) (s : Surface) (at : Position) (x y u v a b c d : ℕ) (
   across : u + 32768 ≡ 2 * (16 * at.column) + x
   across = omega (arith, eu)
 
-  pub first-at : a ≡ u / 2 → b ≡ v / 2 → c ≡ (u + (1 - x / 32768)) / 4 → d ≡ (v + (1 - y / 32768)) / 4
+  pub first_at : a ≡ u / 2 → b ≡ v / 2 → c ≡ (u + (1 - x / 32768)) / 4 → d ≡ (v + (1 - y / 32768)) / 4
       → (block_extent k s at (pair (sub_ℕ x 32768) (sub_ℕ y 32768))).first
       ≡ min (address s.pitch a (row_of k b)) (address s.pitch (2 * c) (s.chroma_row + row_of k d))
-  first-at ea eb ec ed =
+  first_at ea eb ec ed =
       ap (λ (e : Extent). e.first) (block_is k s at (pair (sub_ℕ x 32768) (sub_ℕ y 32768)))
       ∙ sym
       (ap₂ min
       (ap₂ (λ (m n : ℕ). address s.pitch m (row_of k n)) (luma_from 16 at.column x u a across ea) (luma_from (rows_in k luma) at.row y v b ev eb))
-      (ap₂ (λ (m n : ℕ). address s.pitch (2 * m) (s.chroma_row + row_of k n)) (chroma-from 8 at.column x u c hx across ec) (chroma-from (half_rows k) at.row y v d hy ev ed)))
+      (ap₂ (λ (m n : ℕ). address s.pitch (2 * m) (s.chroma_row + row_of k n)) (chroma_from 8 at.column x u c hx across ec) (chroma_from (half_rows k) at.row y v d hy ev ed)))
 
-  pub end-at : a ≡ (u + 1) / 2 + 15
+  pub end_at : a ≡ (u + 1) / 2 + 15
       → b ≡ (v + 1) / 2 + (rows_in k luma - 1)
       → c ≡ (u + (1 - x / 32768) + 2) / 4 + 7
       → d ≡ (v + (1 - y / 32768) + 2) / 4 + (half_rows k - 1)
       → (block_extent k s at (pair (sub_ℕ x 32768) (sub_ℕ y 32768))).end
       ≡ max (address s.pitch a (row_of k b) + 1) (address s.pitch (2 * c + 1) (s.chroma_row + row_of k d) + 1)
-  end-at ea eb ec ed =
+  end_at ea eb ec ed =
       ap (λ (e : Extent). e.end) (block_is k s at (pair (sub_ℕ x 32768) (sub_ℕ y 32768)))
       ∙ sym
       (ap₂ (λ (m n : ℕ). max (m + 1) (n + 1))
       (ap₂ (λ (m n : ℕ). address s.pitch m (row_of k n)) (luma_at 16 at.column x u a (omega arith) across ea) (luma_at (rows_in k luma) at.row y v b (rows_pos k luma) ev eb))
       (ap₂ (λ (m n : ℕ). address s.pitch (2 * m + 1) (s.chroma_row + row_of k n))
-      (chroma-at 8 at.column x u c hx across (omega arith) ec)
-      (chroma-at (half_rows k) at.row y v d hy ev (half_pos k).0 ed)))
+      (chroma_at 8 at.column x u c hx across (omega arith) ec)
+      (chroma_at (half_rows k) at.row y v d hy ev (half_pos k).0 ed)))
 
 -- a block starts in the picture where its half samples from the edge do not wrap
 pub start_test : (n b u : ℕ) → n ≤ 1048560 → b < 65536 → u < 2 ^ 32 → (u + 32768) % 2 ^ 32 ≡ 2 * n + b → leb u 16777216 ≡ leb 32768 (2 * n + b)
@@ -187,48 +187,48 @@ start_test n b u hp hb hu s =
 -- ---- the reach of a word whose components are x - 32768 and y - 32768
 starts : (size place b : ℕ) → 32768 ≤ 2 * (size * place) + b → le_z (pos 0) (first_of size place (sub_ℕ b 32768)) ≡ true
 starts size place b h =
-    ap₂ le_z (pos_sub 0) (first-is size place b 16384) ∙ le_sums 0 0 (size * place + b / 2) 16384 ∙ le-leb (0 + 16384) (size * place + b / 2 + 0) (omega arith)
+    ap₂ le_z (pos_sub 0) (first_is size place b 16384) ∙ le_sums 0 0 (size * place + b / 2) 16384 ∙ le-leb (0 + 16384) (size * place + b / 2 + 0) (omega arith)
 
 starts_before : (size place b : ℕ) → 2 * (size * place) + b < 32768 → le_z (pos 0) (first_of size place (sub_ℕ b 32768)) ≡ false
 starts_before size place b h =
-    ap₂ le_z (pos_sub 0) (first-is size place b 16384) ∙ le_sums 0 0 (size * place + b / 2) 16384 ∙ lt-leb (0 + 16384) (size * place + b / 2 + 0) (omega arith)
+    ap₂ le_z (pos_sub 0) (first_is size place b 16384) ∙ le_sums 0 0 (size * place + b / 2) 16384 ∙ lt-leb (0 + 16384) (size * place + b / 2 + 0) (omega arith)
 
 module _ (k : Structure) (s : Surface) (at : Position) (w x y : ℕ) (ex : sub_ℕ x 32768 ≡ (vector_of w).x) (ey : sub_ℕ y 32768 ≡ (vector_of w).y) where
-  reach-by : (t u : Bool)
+  reach_by : (t u : Bool)
       → le_z (pos 0) (first_of 16 at.column (sub_ℕ x 32768)) ≡ t
       → le_z (pos 0) (first_of (rows_in k luma) at.row (sub_ℕ y 32768)) ≡ u
       → reach_of k s at w ≡ cond (t && u) (block_extent k s at (pair (sub_ℕ x 32768) (sub_ℕ y 32768))) empty_extent
   unfolding reach_of
-  reach-by t u et eu =
+  reach_by t u et eu =
       sym
       (ap
       (λ (v : Vector). cond (le_z (pos 0) (first_of 16 at.column v.x) && le_z (pos 0) (first_of (rows_in k luma) at.row v.y)) (block_extent k s at v) empty_extent)
       (ap₂ pair ex ey))
       ∙ ap₂ (λ (p q : Bool). cond (p && q) (block_extent k s at (pair (sub_ℕ x 32768) (sub_ℕ y 32768))) empty_extent) et eu
 
-  pub reach-inside : 32768 ≤ 32 * at.column + x → 32768 ≤ 2 * (rows_in k luma * at.row) + y → reach_of k s at w ≡ block_extent k s at (pair (sub_ℕ x 32768) (sub_ℕ y 32768))
-  reach-inside h l = reach-by true true (starts 16 at.column x (omega (arith, h))) (starts (rows_in k luma) at.row y l)
+  pub reach_inside : 32768 ≤ 32 * at.column + x → 32768 ≤ 2 * (rows_in k luma * at.row) + y → reach_of k s at w ≡ block_extent k s at (pair (sub_ℕ x 32768) (sub_ℕ y 32768))
+  reach_inside h l = reach_by true true (starts 16 at.column x (omega (arith, h))) (starts (rows_in k luma) at.row y l)
 
   -- by the test of the code
-  pub reach-before : (leb 32768 (32 * at.column + x) && leb 32768 (2 * (rows_in k luma * at.row) + y)) ≡ false → reach_of k s at w ≡ empty_extent
-  reach-before e = by (split (32 * at.column + x) 32768) (split (2 * (rows_in k luma * at.row) + y) 32768)
+  pub reach_before : (leb 32768 (32 * at.column + x) && leb 32768 (2 * (rows_in k luma * at.row) + y)) ≡ false → reach_of k s at w ≡ empty_extent
+  reach_before e = by (split (32 * at.column + x) 32768) (split (2 * (rows_in k luma * at.row) + y) 32768)
     where
       by : (32 * at.column + x < 32768) ⊎ (32768 ≤ 32 * at.column + x)
           → (2 * (rows_in k luma * at.row) + y < 32768) ⊎ (32768 ≤ 2 * (rows_in k luma * at.row) + y)
           → reach_of k s at w ≡ empty_extent
-      by (inl h) l = reach-by false _ (starts_before 16 at.column x (omega (arith, h))) refl
-      by (inr h) (inl l) = reach-by true false (starts 16 at.column x (omega (arith, h))) (starts_before (rows_in k luma) at.row y l)
+      by (inl h) l = reach_by false _ (starts_before 16 at.column x (omega (arith, h))) refl
+      by (inr h) (inl l) = reach_by true false (starts 16 at.column x (omega (arith, h))) (starts_before (rows_in k luma) at.row y l)
       by (inr h) (inr l) =
           let z : ◌≡◌ {A = Bool} true false = sym (ap₂ ◌&&◌ (le-leb 32768 (32 * at.column + x) h) (le-leb 32768 (2 * (rows_in k luma * at.row) + y) l)) ∙ e in
           absurd (unequal z)
 
-  pub reach-starts : (leb 32768 (32 * at.column + x) && leb 32768 (2 * (rows_in k luma * at.row) + y)) ≡ true
+  pub reach_starts : (leb 32768 (32 * at.column + x) && leb 32768 (2 * (rows_in k luma * at.row) + y)) ≡ true
       → (32768 ≤ 32 * at.column + x) × (32768 ≤ 2 * (rows_in k luma * at.row) + y) × (reach_of k s at w ≡ block_extent k s at (pair (sub_ℕ x 32768) (sub_ℕ y 32768)))
-  reach-starts t =
+  reach_starts t =
       let two = both (leb 32768 (32 * at.column + x)) (leb 32768 (2 * (rows_in k luma * at.row) + y)) t in
       let h = leb-true 32768 (32 * at.column + x) two.0 in
       let l = leb-true 32768 (2 * (rows_in k luma * at.row) + y) two.1 in
-      (h, l, reach-inside h l)
+      (h, l, reach_inside h l)
 
 -- ---- a line as the code makes it: p is one less than the code
 pub one_up : (p : ℕ) → 1 ≤ 2 ^ p
@@ -249,9 +249,9 @@ module _ (size n c p last : ℕ) (el : last ≡ n - 1) (ep : p ≡ c - 1) where
   limit = ap (λ (m : ℕ). size * 2 ^ m) ep
 
   -- with l for the limit as the code has it, at most 32768
-  pub line-narrow : (l : ℕ) → l ≡ min 32768 (size * 2 ^ p) → line (32768 - l) (2 * l - 1) last ≡ line_of size n c
+  pub line_narrow : (l : ℕ) → l ≡ min 32768 (size * 2 ^ p) → line (32768 - l) (2 * l - 1) last ≡ line_of size n c
   unfolding line_of
-  line-narrow l e =
+  line_narrow l e =
       let low : 32768 - l ≡ 32768 - limit_of size c = omega (arith, limit) in
       let span : 2 * l - 1 ≡ 2 * limit_of size c - 1 = omega (arith, limit) in
       ap₂ (λ (f : ℕ → Line) (m : ℕ). f m) (ap₂ line low span) el

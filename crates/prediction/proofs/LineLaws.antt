@@ -28,14 +28,14 @@ use Rattle.prediction.specs.declared.Extent.{Extent}
 use Rattle.prediction.specs.declared.Line.{Line}
 use Rattle.prediction.specs.declared.Block.TheVariants.{Outside, Inside}
 use Rattle.prediction.proofs.Integers.{split, both, product_le}
-use Rattle.prediction.proofs.Components.{bias_of, bias_lt, bias_back, inside-means, inside-holds}
-use Rattle.prediction.proofs.CodeRange.{code-test}
+use Rattle.prediction.proofs.Components.{bias_of, bias_lt, bias_back, inside_means, inside_holds}
+use Rattle.prediction.proofs.CodeRange.{code_test}
 use Rattle.prediction.proofs.TwosComplement.{pair, vector_fits}
 use Rattle.prediction.proofs.BlockBytes.{tests, rows_pos, row_grows, sample_grows, block_is}
 use Rattle.prediction.proofs.AddressGrows.{address_parts, address_column, address_row}
 use Rattle.prediction.proofs.BlockLaws.{answer, own_inside}
-use Rattle.prediction.proofs.ExtentLaws.{between, join-both}
-use Rattle.prediction.proofs.LineCode.{line-means, line-holds, limit_up, first-at, reach-inside, reach-before, reach-starts}
+use Rattle.prediction.proofs.ExtentLaws.{between, join_both}
+use Rattle.prediction.proofs.LineCode.{line_means, line_holds, limit_up, first_at, reach_inside, reach_before, reach_starts}
 
 -- ---- a line's test is the range of its code and the inside test
 swapped : (a b c d : Bool) → ((a && b) && (c && d)) ≡ ((a && c) && (b && d))
@@ -45,39 +45,39 @@ swapped true false false d = refl
 swapped false b c d = refl
 
 module _ (size n c place b : ℕ) (hs : 0 < size) (hn : 0 < n) (hb : b < 65536) where
-  last-place : size * n ≡ size * (n - 1) + size
-  last-place = ap (λ (m : ℕ). size * m) (before hn) ∙ mul-add size (n - 1) 1 ∙ omega arith
+  last_place : size * n ≡ size * (n - 1) + size
+  last_place = ap (λ (m : ℕ). size * m) (before hn) ∙ mul-add size (n - 1) 1 ∙ omega arith
     where
       before : 0 < n → n ≡ n - 1 + 1
       before h = omega arith
 
-  exact-to : in_line size (line_of size n c) place (sub_ℕ b 32768) ≡ true → (in_range size c (sub_ℕ b 32768) && inside size place n (sub_ℕ b 32768)) ≡ true
+  exact_to : in_line size (line_of size n c) place (sub_ℕ b 32768) ≡ true → (in_range size c (sub_ℕ b 32768) && inside size place n (sub_ℕ b 32768)) ≡ true
   unfolding line_of
-  exact-to t =
-      let f = line-means size (line_of size n c) place b t in
+  exact_to t =
+      let f = line_means size (line_of size n c) place b t in
       let p = limit_up size (c - 1) in
       ap₂ ◌&&◌
-      (code-test size c b (c - 1) hs hb refl
+      (code_test size c b (c - 1) hs hb refl
       ∙ ap₂ ◌&&◌ (le-leb 32768 (b + size * 2 ^ (c - 1)) (omega arith)) (lt-ltb b (32768 + size * 2 ^ (c - 1)) (omega arith)))
-      (inside-holds size place b 16384 n (omega arith) (omega (arith, last-place)))
+      (inside_holds size place b 16384 n (omega arith) (omega (arith, last_place)))
 
-  exact-from : (in_range size c (sub_ℕ b 32768) && inside size place n (sub_ℕ b 32768)) ≡ true → in_line size (line_of size n c) place (sub_ℕ b 32768) ≡ true
+  exact_from : (in_range size c (sub_ℕ b 32768) && inside size place n (sub_ℕ b 32768)) ≡ true → in_line size (line_of size n c) place (sub_ℕ b 32768) ≡ true
   unfolding line_of
-  exact-from t =
+  exact_from t =
       let two = both (in_range size c (sub_ℕ b 32768)) (inside size place n (sub_ℕ b 32768)) t in
       let code =
-      both (leb 32768 (b + size * 2 ^ (c - 1))) (ltb b (32768 + size * 2 ^ (c - 1))) (sym (code-test size c b (c - 1) hs hb refl) ∙ two.0) in
+      both (leb 32768 (b + size * 2 ^ (c - 1))) (ltb b (32768 + size * 2 ^ (c - 1))) (sym (code_test size c b (c - 1) hs hb refl) ∙ two.0) in
       let low = leb-true 32768 (b + size * 2 ^ (c - 1)) code.0 in
       let high = ltb-true b (32768 + size * 2 ^ (c - 1)) code.1 in
-      let i = inside-means size place b 16384 n two.1 in
-      line-holds size (line_of size n c) place b (record { from = omega arith; to = omega arith; first = omega arith; last = omega (arith, last-place) })
+      let i = inside_means size place b 16384 n two.1 in
+      line_holds size (line_of size n c) place b (record { from = omega arith; to = omega arith; first = omega arith; last = omega (arith, last_place) })
 
-  line-exact : in_line size (line_of size n c) place (sub_ℕ b 32768) ≡ (in_range size c (sub_ℕ b 32768) && inside size place n (sub_ℕ b 32768))
-  line-exact = same _ _ exact-to exact-from
+  line_exact : in_line size (line_of size n c) place (sub_ℕ b 32768) ≡ (in_range size c (sub_ℕ b 32768) && inside size place n (sub_ℕ b 32768))
+  line_exact = same _ _ exact_to exact_from
 
 component_exact : (size n c place : ℕ) (v : ℤ) → 0 < size → 0 < n → mag v < 32768 → in_line size (line_of size n c) place v ≡ (in_range size c v && inside size place n v)
 component_exact size n c place v hs hn hv =
-    subst (λ (z : ℤ). in_line size (line_of size n c) place z ≡ (in_range size c z && inside size place n z)) (bias_back v hv) (line-exact size n c place (bias_of v) hs hn (bias_lt v hv))
+    subst (λ (z : ℤ). in_line size (line_of size n c) place z ≡ (in_range size c z && inside size place n z)) (bias_back v hv) (line_exact size n c place (bias_of v) hs hn (bias_lt v hv))
 
 -- The test by lines of a picture's columns and rows holds exactly where both the range test and the inside test do.
 pub lines_exact : (k : Structure) (g : Grid) (at : Position) (cx cy w : ℕ)
@@ -150,8 +150,8 @@ module _ (s : Surface) (x x' y : ℕ) (h : x ≤ x') where
         sample_grows s cb {x = start_of 8 x (pos 0)} {x' = start_of 8 x' (pos 0)} {y = start_of 8 y (pos 0)} {y' = start_of 8 y (pos 0)} wide (omega arith) (omega arith),
       )
 
-  own-end : 16 ≤ s.pitch → (own_of s x y).end ≤ (own_of s x' y).end
-  own-end wide =
+  own_end : 16 ≤ s.pitch → (own_of s x y).end ≤ (own_of s x' y).end
+  own_end wide =
       omega (
         arith,
         ap (λ (e : Extent). e.end) (own_is s x y ∙ block_is Frame s (record { column = x; row = y }) still),
@@ -173,8 +173,8 @@ pub own_along : (s : Surface) (x m z y : ℕ)
     ≡ record { first = (reach_of Frame s (record { column = x; row = y }) 0).first; end = (reach_of Frame s (record { column = z; row = y }) 0).end }
 own_along s x m z y wide h k =
     let first : min (own_of s x y).first (own_of s z y).first ≡ (own_of s x y).first = omega (arith, own_first s x z y h wide) in
-    let end : max (own_of s m y).end (own_of s z y).end ≡ (own_of s z y).end = omega (arith, own-end s m z y k wide) in
-    join-both (between (own_of s x y).first (own_of s m y).end) (own_of s z y) (own_touches s m y) (own_touches s z y) ∙ ap₂ between first end
+    let end : max (own_of s m y).end (own_of s z y).end ≡ (own_of s z y).end = omega (arith, own_end s m z y k wide) in
+    join_both (between (own_of s x y).first (own_of s m y).end) (own_of s z y) (own_touches s m y) (own_touches s z y) ∙ ap₂ between first end
 
 -- ---- where blocks begin
 -- A block that starts in the picture, in half samples from the edges, begins at or behind the floor of every column before it and every lower x and y.
@@ -192,18 +192,18 @@ module _ (k : Structure) (s : Surface) (at : Position) (column x y a b u v : ℕ
       (address_row s.pitch (u / 2) (row_of k (top / 2)) (row_of k (v / 2)) wide (row_grows k {y = top / 2} {y' = v / 2} (omega arith))) in
       let chroma = le_trans (address_column s.pitch s.chroma_row 0 (2 * cx) (omega arith))
       (address_row s.pitch (2 * cx) s.chroma_row (s.chroma_row + cy) wide (omega arith)) in
-      let first = first-at k s at x y u v (u / 2) (v / 2) cx ((v + (1 - y / 32768)) / 4) hx hy eu ev refl refl refl refl in
+      let first = first_at k s at x y u v (u / 2) (v / 2) cx ((v + (1 - y / 32768)) / 4) hx hy eu ev refl refl refl refl in
       simp (le-leb 16 s.pitch wide) (omega (arith, luma, chroma, first))
 
-  above-narrow : s.pitch < 16 → floor_of k s column a at.row b ≤ (block_extent k s at (pair (sub_ℕ x 32768) (sub_ℕ y 32768))).first
+  above_narrow : s.pitch < 16 → floor_of k s column a at.row b ≤ (block_extent k s at (pair (sub_ℕ x 32768) (sub_ℕ y 32768))).first
   unfolding floor_of
-  above-narrow narrow = simp (lt-leb 16 s.pitch narrow) (omega arith)
+  above_narrow narrow = simp (lt-leb 16 s.pitch narrow) (omega arith)
 
-  above-start : floor_of k s column a at.row b ≤ (block_extent k s at (pair (sub_ℕ x 32768) (sub_ℕ y 32768))).first
-  above-start = by (split s.pitch 16)
+  above_start : floor_of k s column a at.row b ≤ (block_extent k s at (pair (sub_ℕ x 32768) (sub_ℕ y 32768))).first
+  above_start = by (split s.pitch 16)
     where
       by : (s.pitch < 16) ⊎ (16 ≤ s.pitch) → floor_of k s column a at.row b ≤ (block_extent k s at (pair (sub_ℕ x 32768) (sub_ℕ y 32768))).first
-      by (inl narrow) = above-narrow narrow
+      by (inl narrow) = above_narrow narrow
       by (inr wide) = above_wide wide
 
 -- A block whose vector keeps two lines begins at or behind the floor of its row from every column before it on, and touches some byte.
@@ -219,15 +219,15 @@ above_floor k s at column l m w right t =
     let ex = bias_back (vector_of w).x f.0.sfits in
     let ey = bias_back (vector_of w).y f.1.sfits in
     let two = both (in_line 16 l at.column (vector_of w).x) (in_line (rows_in k luma) m at.row (vector_of w).y) t in
-    let columns = line-means 16 l at.column x (ap (in_line 16 l at.column) ex ∙ two.0) in
-    let rows = line-means (rows_in k luma) m at.row y (ap (in_line (rows_in k luma) m at.row) ey ∙ two.1) in
+    let columns = line_means 16 l at.column x (ap (in_line 16 l at.column) ex ∙ two.0) in
+    let rows = line_means (rows_in k luma) m at.row y (ap (in_line (rows_in k luma) m at.row) ey ∙ two.1) in
     let u = 32 * at.column + x - 32768 in
     let v = 2 * (rows_in k luma * at.row) + y - 32768 in
     let eu : u + 32768 ≡ 32 * at.column + x = omega (arith, columns.first) in
     let ev : v + 32768 ≡ 2 * (rows_in k luma * at.row) + y = omega (arith, rows.first) in
-    let is = reach-inside k s at w x y ex ey (omega (arith, columns.first)) rows.first in
+    let is = reach_inside k s at w x y ex ey (omega (arith, columns.first)) rows.first in
     let start =
-    above-start k s at column x y l.low m.low u v (bias_lt (vector_of w).x f.0.sfits) (bias_lt (vector_of w).y f.1.sfits) eu ev right columns.from rows.from in (
+    above_start k s at column x y l.low m.low u v (bias_lt (vector_of w).x f.0.sfits) (bias_lt (vector_of w).y f.1.sfits) eu ev right columns.from rows.from in (
       subst (λ (e : Extent). floor_of k s column l.low at.row m.low ≤ e.first) (sym is) start,
       omega (arith, ap (λ (e : Extent). e.end) (is ∙ block_is k s at (pair (sub_ℕ x 32768) (sub_ℕ y 32768)))),
     )
@@ -260,14 +260,14 @@ module _ (k : Structure) (s : Surface) (at : Position) (w : ℕ) (hp : s.pitch <
   fits_by : (x y : ℕ) → x < 65536 → y < 65536 → sub_ℕ x 32768 ≡ (vector_of w).x → sub_ℕ y 32768 ≡ (vector_of w).y
       → (t : Bool) → (leb 32768 (32 * at.column + x) && leb 32768 (2 * (rows_in k luma * at.row) + y)) ≡ t → (reach_of k s at w).first < 2 ^ 64
   unfolding empty_extent
-  fits_by x y lx ly ex ey false e = omega (arith, ap (λ (f : Extent). f.first) (reach-before k s at w x y ex ey e))
+  fits_by x y lx ly ex ey false e = omega (arith, ap (λ (f : Extent). f.first) (reach_before k s at w x y ex ey e))
   fits_by x y lx ly ex ey true e =
-      let is = reach-starts k s at w x y ex ey e in
+      let is = reach_starts k s at w x y ex ey e in
       let u = 32 * at.column + x - 32768 in
       let v = 2 * (rows_in k luma * at.row) + y - 32768 in
       let eu : u + 32768 ≡ 32 * at.column + x = omega (arith, is.0) in
       let ev : v + 32768 ≡ 2 * (rows_in k luma * at.row) + y = omega (arith, is.1) in
-      let first = first-at k s at x y u v (u / 2) (v / 2) ((u + (1 - x / 32768)) / 4) ((v + (1 - y / 32768)) / 4) lx ly eu ev refl refl refl refl in
+      let first = first_at k s at x y u v (u / 2) (v / 2) ((u + (1 - x / 32768)) / 4) ((v + (1 - y / 32768)) / 4) lx ly eu ev refl refl refl refl in
       let row = row_fits k at.row v y hy ly ev in
       let tiles : row_of k (v / 2) / 32 * 32 * s.pitch ≤ 2097151 * 4294967295 = product_le 2097151 4294967295 (omega (arith, row)) (omega arith) in
       omega (arith, ap (λ (f : Extent). f.first) is.2, first, address_parts s.pitch (u / 2) (row_of k (v / 2)), tiles)

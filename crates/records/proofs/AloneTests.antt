@@ -18,9 +18,9 @@ module _ (ws : List ℕ) where
   unfolding read_fault
   no_words e = simp (eq-eqb (length ws) 0 e)
 
-  pub other-header : (length ws ≡ 0 → ⊥) → (word_at ws 0 ≡ macroblock_header → ⊥) → read_fault ws ≡ Refused 2 0
+  pub other_header : (length ws ≡ 0 → ⊥) → (word_at ws 0 ≡ macroblock_header → ⊥) → read_fault ws ≡ Refused 2 0
   unfolding read_fault
-  other-header d h = simp (ne_eqb (length ws) 0 d, ne_eqb (word_at ws 0) macroblock_header h)
+  other_header d h = simp (ne_eqb (length ws) 0 d, ne_eqb (word_at ws 0) macroblock_header h)
 
   pub too_few : (length ws ≡ 0 → ⊥) → word_at ws 0 ≡ macroblock_header → length ws < 9 → read_fault ws ≡ Refused 1 (length ws)
   unfolding read_fault

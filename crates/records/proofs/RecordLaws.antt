@@ -15,7 +15,7 @@ use Rattle.fields.specs.Parts.{Part, value_at}
 use Rattle.fields.proofs.Elements.{elements_all}
 use Rattle.fields.proofs.PartLaws.{part_bytes, number_lt}
 use Rattle.fields.proofs.LittleEndian.{bytes_back, number_back}
-use Rattle.fields.proofs.Packing.{packed_field, packed-is}
+use Rattle.fields.proofs.Packing.{packed_field, packed_is}
 use Rattle.prediction.specs.Vectors.{vector_of}
 use Rattle.prediction.proofs.TwosComplement.{vector_word_back}
 use Rattle.answers.specs.Answers.{judged, holds_at}
@@ -32,7 +32,7 @@ use Rattle.macroblock.specs.declared.Kept.{Kept}
 use Rattle.macroblock.specs.declared.Macroblock.{Macroblock}
 use Rattle.macroblock.specs.declared.Motion.{Motion}
 use Rattle.macroblock.proofs.CaseLaws.{case_fits, case_back, motion_lt}
-use Rattle.macroblock.proofs.CommandLaws.{flag_again, bit_again, quantiser-lt}
+use Rattle.macroblock.proofs.CommandLaws.{flag_again, bit_again, quantiser_lt}
 use Rattle.macroblock.proofs.Congruence.{same_flags, same_macroblock}
 use Rattle.records.specs.Layout.{column_part, row_part, upper_part, kind_part, skip_part, pattern_part, max_size_part, target_size_part, quantiser_part, flags_part, filler_part, forward_part, backward_part}
 use Rattle.records.specs.Records.{flag_fields, flags_of, recordable_case, recordable, recorded_kind, recorded_motion, record_of, macroblock_in}
@@ -78,25 +78,25 @@ module _ (m : Macroblock) (l : Legal m) where
   unfolding record_of
   kind_at = let k = recordable_most m.case in number_back 1 numbers.kind (omega arith)
 
-  motion-at : recorded_motion (record_of m) ≡ numbers
+  motion_at : recorded_motion (record_of m) ≡ numbers
   unfolding record_of
-  motion-at =
+  motion_at =
       let k = ap recorded_kind kind_at ∙ kind_recorded numbers.kind (recordable_most m.case) in
       let f = number_back 4 numbers.forward (motion_lt case fits).0 in
       let b = number_back 4 numbers.backward (motion_lt case fits).1 in
       same_motion k f b ∙ sym (no_fields m.case)
 
   -- What a record has room for of a legal macroblock comes back from it.
-  pub record-back : macroblock_in (record_of m) ≡ recordable m
+  pub record_back : macroblock_in (record_of m) ≡ recordable m
   unfolding record_of macroblock_in
-  record-back =
+  record_back =
       let p = l.pattern_fits in
-      let q = quantiser-lt m l in
+      let q = quantiser_lt m l in
       same_macroblock
       (number_back 2 m.column l.column_fits)
       (number_back 2 m.row l.row_fits)
       (number_back 2 m.upper l.upper_fits)
-      (ap case_of motion-at ∙ case_back case fits)
+      (ap case_of motion_at ∙ case_back case fits)
       (ap is_set (number_back 1 (flag m.skip) (flag_fits m.skip)) ∙ flag_bit m.skip)
       refl
       (number_back 1 m.pattern (omega arith))
@@ -148,9 +148,9 @@ lt_most : {n : ℕ} → n < 64 → n ≤ 63
 lt_most h = omega arith
 
 module _ (m : Macroblock) (l : Legal m) where
-  zeros-kept : Hold (zero_rules (record_of m) (value_at kind_part (record_of m)))
+  zeros_kept : Hold (zero_rules (record_of m) (value_at kind_part (record_of m)))
   unfolding zero_rules record_of
-  zeros-kept =
+  zeros_kept =
       let bs = record_of m in
       let k = value_at kind_part bs in
       let absent : (b : ℕ → Bool) → b k ≡ false → b (motion_of (recordable_case m.case)).kind ≡ false = λ b e. ap b (sym (kind_at m l)) ∙ e in
@@ -160,9 +160,9 @@ module _ (m : Macroblock) (l : Legal m) where
       (unused_hold (has_forward k) forward_part bs (λ e. ap (bytes_of 4) ((absent_zero m.case).0 (absent has_forward e))))
       (unused_hold (has_backward k) backward_part bs (λ e. ap (bytes_of 4) ((absent_zero m.case).1 (absent has_backward e)))))
 
-  fields-kept : Hold (byte_rules (record_of m) (kept_by (recordable m)))
+  fields_kept : Hold (byte_rules (record_of m) (kept_by (recordable m)))
   unfolding byte_rules record_of
-  fields-kept =
+  fields_kept =
       let r = recordable_legal m l in
       let k = recordable_most m.case in
       let p = l.pattern_fits in
@@ -180,14 +180,14 @@ module _ (m : Macroblock) (l : Legal m) where
       )
 
   -- A legal macroblock's record keeps the rules of records.
-  pub record-kept : judged (record_rules (record_of m)) ≡ Accepted
+  pub record_kept : judged (record_rules (record_of m)) ≡ Accepted
   unfolding record_rules byte_rules
-  record-kept =
+  record_kept =
       let bs = record_of m in
       none_broken (record_rules bs)
       (hold_both (byte_rules bs (kept_by (macroblock_in bs))) (zero_rules bs (value_at kind_part bs))
-      (subst (λ (n : Macroblock). Hold (byte_rules bs (kept_by n))) (sym (record-back m l)) fields-kept)
-      zeros-kept)
+      (subst (λ (n : Macroblock). Hold (byte_rules bs (kept_by n))) (sym (record_back m l)) fields_kept)
+      zeros_kept)
 
 -- From a record to its macroblock and back.
 one : (b : ℕ) → number_in (b ∷ []) ≡ b
@@ -222,7 +222,7 @@ motion_again k f b hk hf hb nf nb = by (eqb k 1) (eqb k 2) (eqb k 3) (eqb k 4) r
 -- a byte of six flags, and back
 flags_again : (b : ℕ) → b < 64 → packed (flag_fields (flags_of b)) ≡ b
 flags_again b h =
-    packed-is (flag_fields (flags_of b)) b (piece 0 0 ∷ piece 1 1 ∷ piece 2 2 ∷ piece 3 3 ∷ piece 4 4 ∷ piece 5 5 ∷ piece 31 6 ∷ []) (omega arith) tt
+    packed_is (flag_fields (flags_of b)) b (piece 0 0 ∷ piece 1 1 ∷ piece 2 2 ∷ piece 3 3 ∷ piece 4 4 ∷ piece 5 5 ∷ piece 31 6 ∷ []) (omega arith) tt
     (bit_again b 0 tt, (bit_again b 1 tt, (bit_again b 2 tt, (bit_again b 3 tt, (bit_again b 4 tt, (bit_again b 5 tt, (omega arith, tt)))))))
 
 -- ten single bytes of a record, the others as they are
@@ -254,17 +254,17 @@ module _ (bs : List ℕ) (n : length bs ≡ 24) (h : Bytes bs) (k : judged (reco
   right : (p : Part) → holds_at 15 p.first (byte_rules bs kept) ≡ true
   right p = rule_kept 15 p.first (byte_rules bs kept) rules.0
 
-  kind-right : value_at kind_part bs ≤ 3
+  kind_right : value_at kind_part bs ≤ 3
   unfolding byte_rules
-  kind-right = leb-true (value_at kind_part bs) 3 (right kind_part)
+  kind_right = leb-true (value_at kind_part bs) 3 (right kind_part)
 
-  skip-right : (leb (value_at skip_part bs) 1 ≡ true) × (kept.intra_not_skipped ≡ true)
+  skip_right : (leb (value_at skip_part bs) 1 ≡ true) × (kept.intra_not_skipped ≡ true)
   unfolding byte_rules
-  skip-right = let r = right skip_part in (and_left (leb (value_at skip_part bs) 1) kept.intra_not_skipped r, and_right (leb (value_at skip_part bs) 1) kept.intra_not_skipped r)
+  skip_right = let r = right skip_part in (and_left (leb (value_at skip_part bs) 1) kept.intra_not_skipped r, and_right (leb (value_at skip_part bs) 1) kept.intra_not_skipped r)
 
-  pattern-right : (leb (value_at pattern_part bs) 63 ≡ true) × (kept.intra_pattern ≡ true) × (kept.skip_pattern ≡ true)
+  pattern_right : (leb (value_at pattern_part bs) 63 ≡ true) × (kept.intra_pattern ≡ true) × (kept.skip_pattern ≡ true)
   unfolding byte_rules
-  pattern-right =
+  pattern_right =
       let r = right pattern_part in
       let s = and_right (leb (value_at pattern_part bs) 63) (kept.intra_pattern && kept.skip_pattern) r in (
         and_left (leb (value_at pattern_part bs) 63) (kept.intra_pattern && kept.skip_pattern) r,
@@ -272,40 +272,40 @@ module _ (bs : List ℕ) (n : length bs ≡ 24) (h : Bytes bs) (k : judged (reco
         and_right kept.intra_pattern kept.skip_pattern s,
       )
 
-  quantiser-right : kept.quantiser ≡ true
+  quantiser_right : kept.quantiser ≡ true
   unfolding byte_rules
-  quantiser-right = right quantiser_part
+  quantiser_right = right quantiser_part
 
-  flags-right : (leb (value_at flags_part bs) 63 ≡ true) × (kept.skip_inside_slice ≡ true)
+  flags_right : (leb (value_at flags_part bs) 63 ≡ true) × (kept.skip_inside_slice ≡ true)
   unfolding byte_rules
-  flags-right = let r = right flags_part in (and_left (leb (value_at flags_part bs) 63) kept.skip_inside_slice r, and_right (leb (value_at flags_part bs) 63) kept.skip_inside_slice r)
+  flags_right = let r = right flags_part in (and_left (leb (value_at flags_part bs) 63) kept.skip_inside_slice r, and_right (leb (value_at flags_part bs) 63) kept.skip_inside_slice r)
 
-  part-lt : (p : Part) → value_at p bs < 256 ^ length (elements bs p.first p.count)
-  part-lt p = number_lt (elements bs p.first p.count) (part_bytes bs h p.first p.count)
+  part_lt : (p : Part) → value_at p bs < 256 ^ length (elements bs p.first p.count)
+  part_lt p = number_lt (elements bs p.first p.count) (part_bytes bs h p.first p.count)
 
-  not-field : (kept_by (macroblock_in bs)).field_not_skipped ≡ true
+  not_field : (kept_by (macroblock_in bs)).field_not_skipped ≡ true
   unfolding macroblock_in kept_by
-  not-field = let skip = is_set (value_at skip_part bs) in ap (λ (f : Bool). not (skip && f)) (read_never_field bs) ∙ not_and skip
+  not_field = let skip = is_set (value_at skip_part bs) in ap (λ (f : Bool). not (skip && f)) (read_never_field bs) ∙ not_and skip
 
   -- A legal record's macroblock is legal.
-  pub record-legal : Legal (macroblock_in bs)
+  pub record_legal : Legal (macroblock_in bs)
   unfolding macroblock_in
-  record-legal =
-      let p = leb-true (value_at pattern_part bs) 63 pattern-right.0 in
+  record_legal =
+      let p = leb-true (value_at pattern_part bs) 63 pattern_right.0 in
       record {
-        column_fits = part-lt column_part;
-        row_fits = part-lt row_part;
-        upper_fits = part-lt upper_part;
+        column_fits = part_lt column_part;
+        row_fits = part_lt row_part;
+        upper_fits = part_lt upper_part;
         case_fits = case_fits (recorded_motion bs);
         pattern_fits = omega arith;
-        max_fits = part-lt max_size_part;
-        target_fits = part-lt target_size_part;
-        intra_not_skipped = skip-right.1;
-        intra_pattern = pattern-right.1;
-        quantiser_permitted = quantiser-right;
-        skip_inside_slice = flags-right.1;
-        skip_pattern = pattern-right.2;
-        field_not_skipped = not-field;
+        max_fits = part_lt max_size_part;
+        target_fits = part_lt target_size_part;
+        intra_not_skipped = skip_right.1;
+        intra_pattern = pattern_right.1;
+        quantiser_permitted = quantiser_right;
+        skip_inside_slice = flags_right.1;
+        skip_pattern = pattern_right.2;
+        field_not_skipped = not_field;
         dct_not_skipped = refl;
       }
 
@@ -317,11 +317,11 @@ module _ (bs : List ℕ) (n : length bs ≡ 24) (h : Bytes bs) (k : judged (reco
       let b = hold_each (unused_part (has_forward kind) forward_part bs) (unused_part (has_backward kind) backward_part bs) a.1 in
       (hold_unused false filler_part bs a.0 refl, hold_unused (has_forward kind) forward_part bs b.0, hold_unused (has_backward kind) backward_part bs b.1)
 
-  motion-right : motion_of (recordable_case (case_of (recorded_motion bs))) ≡ motion (value_at kind_part bs) (value_at forward_part bs) (value_at backward_part bs) 0 false false
-  motion-right =
+  motion_right : motion_of (recordable_case (case_of (recorded_motion bs))) ≡ motion (value_at kind_part bs) (value_at forward_part bs) (value_at backward_part bs) 0 false false
+  motion_right =
       ap motion_of (read_kept_case bs)
-      ∙ ap (λ (k : ℕ). motion_of (case_of (motion k (value_at forward_part bs) (value_at backward_part bs) 0 false false))) (kind_recorded (value_at kind_part bs) kind-right)
-      ∙ motion_again (value_at kind_part bs) (value_at forward_part bs) (value_at backward_part bs) kind-right (part-lt forward_part) (part-lt backward_part)
+      ∙ ap (λ (k : ℕ). motion_of (case_of (motion k (value_at forward_part bs) (value_at backward_part bs) 0 false false))) (kind_recorded (value_at kind_part bs) kind_right)
+      ∙ motion_again (value_at kind_part bs) (value_at forward_part bs) (value_at backward_part bs) kind_right (part_lt forward_part) (part_lt backward_part)
       (λ e. ap number_in (zeros.1 e))
       (λ e. ap number_in (zeros.2 e))
 
@@ -330,19 +330,19 @@ module _ (bs : List ℕ) (n : length bs ≡ 24) (h : Bytes bs) (k : judged (reco
   spelling =
       let back : (p : Part) → elements bs p.first p.count ≡ bytes_of (length (elements bs p.first p.count)) (value_at p bs) =
       λ p. sym (bytes_back (elements bs p.first p.count) (part_bytes bs h p.first p.count)) in
-      spelled (macroblock_in bs) (part-lt pattern_part) (part-lt max_size_part) (part-lt target_size_part) (part-lt quantiser_part)
+      spelled (macroblock_in bs) (part_lt pattern_part) (part_lt max_size_part) (part_lt target_size_part) (part_lt quantiser_part)
       (back column_part)
       (back row_part)
       (back upper_part)
-      (sym (ap (λ (x : Motion). x.kind) motion-right))
-      (sym (flag_again (value_at skip_part bs) (leb-true (value_at skip_part bs) 1 skip-right.0)))
-      (let f = leb-true (value_at flags_part bs) 63 flags-right.0 in sym (flags_again (value_at flags_part bs) (omega arith)))
-      (back forward_part ∙ ap (bytes_of 4) (sym (ap (λ (x : Motion). x.forward) motion-right)))
-      (back backward_part ∙ ap (bytes_of 4) (sym (ap (λ (x : Motion). x.backward) motion-right)))
+      (sym (ap (λ (x : Motion). x.kind) motion_right))
+      (sym (flag_again (value_at skip_part bs) (leb-true (value_at skip_part bs) 1 skip_right.0)))
+      (let f = leb-true (value_at flags_part bs) 63 flags_right.0 in sym (flags_again (value_at flags_part bs) (omega arith)))
+      (back forward_part ∙ ap (bytes_of 4) (sym (ap (λ (x : Motion). x.forward) motion_right)))
+      (back backward_part ∙ ap (bytes_of 4) (sym (ap (λ (x : Motion). x.backward) motion_right)))
 
   -- A legal record comes back from its macroblock, all its bytes.
-  pub bytes-again : record_of (macroblock_in bs) ≡ bs
-  bytes-again =
+  pub bytes_again : record_of (macroblock_in bs) ≡ bs
+  bytes_again =
       let z = zeros.0 in
       sym spelling
       ∙ same_bytes (one (get_or bs 6 0)) (one (get_or bs 7 0)) (one (get_or bs 8 0)) (one (get_or bs 9 0)) (one (get_or bs 10 0)) (one (get_or bs 11 0)) (one (get_or bs 12 0)) (sym (ap head z)) (sym (ap (λ (xs : List ℕ). head (tail xs)) z)) (sym (ap (λ (xs : List ℕ). head (tail (tail xs))) z))

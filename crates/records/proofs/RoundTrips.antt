@@ -26,13 +26,13 @@ use Rattle.macroblock.specs.Macroblocks.{intra_type, motion_in, macroblock_of, w
 use Rattle.macroblock.specs.Rules.{kept_by, type_permitted, field_rules, vector_rules, command_rules, alone}
 use Rattle.macroblock.specs.declared.Macroblock.{Macroblock}
 use Rattle.macroblock.proofs.CaseLaws.{vectors_four, field_kind, kind_again, type_back}
-use Rattle.macroblock.proofs.CommandLaws.{macroblock-back, words-kept, word_below, bits_lt, macroblock-legal, words_back}
+use Rattle.macroblock.proofs.CommandLaws.{macroblock_back, words_kept, word_below, bits_lt, macroblock_legal, words_back}
 use Rattle.records.specs.Alone.{read_fault, read_answer, read_room, record_fault, write_answer, write_room, LegalRecord}
 use Rattle.records.specs.Records.{recordable, recorded_command, uses_neither, record_of, macroblock_in}
 use Rattle.records.specs.RecordRules.{record_rules}
 use Rattle.records.proofs.AloneTests.{whole, right_length}
 use Rattle.records.proofs.Recordable.{kept_exactly, recordable_legal, recorded_kept}
-use Rattle.records.proofs.RecordLaws.{record-back, record-kept, record-legal, bytes-again}
+use Rattle.records.proofs.RecordLaws.{record_back, record_kept, record_legal, bytes_again}
 
 -- what an accepted command keeps
 pub read_kept : (ws : List ℕ) → read_fault ws ≡ Accepted → (word_at ws 0 ≡ macroblock_header) × (9 ≤ length ws) × (judged (command_rules alone ws) ≡ Accepted)
@@ -65,7 +65,7 @@ first_nine ws h e =
 
 legal_read : (ws : List ℕ) → Words ws → read_fault ws ≡ Accepted → Legal (macroblock_of ws)
 unfolding macroblock_of
-legal_read ws h e = macroblock-legal (elements ws 0 9) (first_nine ws h e)
+legal_read ws h e = macroblock_legal (elements ws 0 9) (first_nine ws h e)
 
 nine_again : (ws : List ℕ) → Words ws → read_fault ws ≡ Accepted → words_of (macroblock_of ws) ≡ take 9 ws
 unfolding macroblock_of
@@ -97,10 +97,10 @@ read_alone ws room h n k r =
 record_of_read : (ws : List ℕ) → Words ws → read_fault ws ≡ Accepted → record_fault (record_of (macroblock_of ws)) ≡ Accepted
 record_of_read ws h e =
     let l = legal_read ws h e in
-    right_length (record_of (macroblock_of ws)) (record_length_lem (macroblock_of ws)) ∙ record-kept (macroblock_of ws) l
+    right_length (record_of (macroblock_of ws)) (record_length_lem (macroblock_of ws)) ∙ record_kept (macroblock_of ws) l
 
 words_of_record : (ws : List ℕ) → Words ws → read_fault ws ≡ Accepted → words_of (macroblock_in (record_of (macroblock_of ws))) ≡ recorded_command ws
-words_of_record ws h e = ap words_of (record-back (macroblock_of ws) (legal_read ws h e))
+words_of_record ws h e = ap words_of (record_back (macroblock_of ws) (legal_read ws h e))
 
 -- The dct type and the type of an accepted command, read from its word 1.
 module _ (ws : List ℕ) (h : Words ws) (e : read_fault ws ≡ Accepted) where
@@ -110,23 +110,23 @@ module _ (ws : List ℕ) (h : Words ws) (e : read_fault ws ≡ Accepted) where
   abbrev m : Macroblock
   m = macroblock_of ws
 
-  type-right : type_permitted alone one ≡ true
+  type_right : type_permitted alone one ≡ true
   unfolding command_rules field_rules
-  type-right = and_left (type_permitted alone one) (kept_by m).intra_not_skipped (rule_kept 5 1 (command_rules alone ws) (read_kept ws e).2)
+  type_right = and_left (type_permitted alone one) (kept_by m).intra_not_skipped (rule_kept 5 1 (command_rules alone ws) (read_kept ws e).2)
 
-  field-said : is_field m.case ≡ eqb (bits one 12 8) 4
+  field_said : is_field m.case ≡ eqb (bits one 12 8) 4
   unfolding macroblock_of
-  field-said =
-      let most = (type_back (bits one 13 13) (bits one 12 8) (bits_lt one 13 13) type-right).2 in
-      sym (field_kind (case_of (motion_in ws))) ∙ ap (λ (k : ℕ). eqb k 4) (kind_again (motion_in ws) most) ∙ by (is_set (bits one 13 13)) _ type-right
+  field_said =
+      let most = (type_back (bits one 13 13) (bits one 12 8) (bits_lt one 13 13) type_right).2 in
+      sym (field_kind (case_of (motion_in ws))) ∙ ap (λ (k : ℕ). eqb k 4) (kind_again (motion_in ws) most) ∙ by (is_set (bits one 13 13)) _ type_right
     where
       by : (x inter : Bool) → cond x (eqb (bits one 12 8) intra_type) inter ≡ true → eqb (cond x 0 (bits one 12 8)) 4 ≡ eqb (bits one 12 8) 4
       by true inter t = sym (ap (λ (k : ℕ). eqb k 4) (eqb-true (bits one 12 8) intra_type t))
       by false inter t = refl
 
-  dct-said : eqb (bits one 15 15) 0 ≡ not m.dct_type
+  dct_said : eqb (bits one 15 15) 0 ≡ not m.dct_type
   unfolding macroblock_of
-  dct-said = bit (bits one 15 15) (bits_lt one 15 15)
+  dct_said = bit (bits one 15 15) (bits_lt one 15 15)
     where
       bit : (b : ℕ) → b < 2 → eqb b 0 ≡ not (is_set b)
       bit b l = by (eqb b 0) (is_set b) refl refl
@@ -137,14 +137,14 @@ module _ (ws : List ℕ) (h : Words ws) (e : read_fault ws ≡ Accepted) where
           by false true ex ey = refl
           by false false ex ey = absurd (omega (arith, eqb-false b 0 ex, eqb-false b 1 ey))
 
-  neither-said : uses_neither ws ≡ (not m.dct_type && not (is_field m.case))
-  neither-said = ap₂ (λ (d f : Bool). d && not f) dct-said (sym field-said)
+  neither_said : uses_neither ws ≡ (not m.dct_type && not (is_field m.case))
+  neither_said = ap₂ (λ (d f : Bool). d && not f) dct_said (sym field_said)
 
   -- The record of a command holds all of its macroblock exactly where bit 15 of word 1 is zero and the type is not 04h.
-  pub recordable-exactly : (uses_neither ws ≡ true → recordable (macroblock_of ws) ≡ macroblock_of ws) × (recordable (macroblock_of ws) ≡ macroblock_of ws → uses_neither ws ≡ true)
-  recordable-exactly = (
-    λ u. let n = false-both m.dct_type (is_field m.case) (sym neither-said ∙ u) in (kept_exactly m).0 n.0 n.1,
-    λ r. let n = (kept_exactly m).1 r in neither-said ∙ ap₂ (λ (d f : Bool). not d && not f) n.0 n.1,
+  pub recordable_exactly : (uses_neither ws ≡ true → recordable (macroblock_of ws) ≡ macroblock_of ws) × (recordable (macroblock_of ws) ≡ macroblock_of ws → uses_neither ws ≡ true)
+  recordable_exactly = (
+    λ u. let n = false-both m.dct_type (is_field m.case) (sym neither_said ∙ u) in (kept_exactly m).0 n.0 n.1,
+    λ r. let n = (kept_exactly m).1 r in neither_said ∙ ap₂ (λ (d f : Bool). not d && not f) n.0 n.1,
   )
     where
       false-both : (a b : Bool) → (not a && not b) ≡ true → (a ≡ false) × (b ≡ false)
@@ -153,55 +153,55 @@ module _ (ws : List ℕ) (h : Words ws) (e : read_fault ws ≡ Accepted) where
       false-both false false q = (refl, refl)
 
   -- So its nine words are those of what is recorded exactly there.
-  pub words-exactly : (uses_neither ws ≡ true → recorded_command ws ≡ take 9 ws) × (recorded_command ws ≡ take 9 ws → uses_neither ws ≡ true)
-  words-exactly =
+  pub words_exactly : (uses_neither ws ≡ true → recorded_command ws ≡ take 9 ws) × (recorded_command ws ≡ take 9 ws → uses_neither ws ≡ true)
+  words_exactly =
       let l = legal_read ws h e in
       let nine = nine_again ws h e in (
-        λ u. ap words_of (recordable-exactly.0 u) ∙ nine,
-        λ q. recordable-exactly.1 (sym (macroblock-back (recordable m) (recordable_legal m l)) ∙ ap macroblock_of (q ∙ sym nine) ∙ macroblock-back m l),
+        λ u. ap words_of (recordable_exactly.0 u) ∙ nine,
+        λ q. recordable_exactly.1 (sym (macroblock_back (recordable m) (recordable_legal m l)) ∙ ap macroblock_of (q ∙ sym nine) ∙ macroblock_back m l),
       )
 
 -- The command of a legal record is accepted, and its record is that one.
 module _ (bs : List ℕ) (h : Bytes bs) (e : record_fault bs ≡ Accepted) where
-  kept-length : (length bs ≡ 24) × (judged (record_rules bs) ≡ Accepted)
+  kept_length : (length bs ≡ 24) × (judged (record_rules bs) ≡ Accepted)
   unfolding record_fault
-  kept-length = by (eqb (length bs) 24) refl e
+  kept_length = by (eqb (length bs) 24) refl e
     where
       by : (x : Bool) → eqb (length bs) 24 ≡ x → cond x (judged (record_rules bs)) (Refused 15 0) ≡ Accepted → (length bs ≡ 24) × (judged (record_rules bs) ≡ Accepted)
       by true ex e = (eqb-true (length bs) 24 ex, e)
       by false ex e = absurd (no_accepted e)
 
-  legal-written : Legal (macroblock_in bs)
-  legal-written = record-legal bs kept-length.0 h kept-length.1
+  legal_written : Legal (macroblock_in bs)
+  legal_written = record_legal bs kept_length.0 h kept_length.1
 
   written : LegalCommand (words_of (macroblock_in bs))
-  written = words-kept (macroblock_in bs) legal-written
+  written = words_kept (macroblock_in bs) legal_written
 
-  read-of-record : read_fault (words_of (macroblock_in bs)) ≡ Accepted
-  read-of-record =
+  read_of_record : read_fault (words_of (macroblock_in bs)) ≡ Accepted
+  read_of_record =
       let n = written.nine in
       whole (words_of (macroblock_in bs)) (λ z. absurd (omega arith)) written.header (omega arith) ∙ written.kept
 
   -- It uses neither bit 15 nor type 04h: the legal records are those of the commands that do not.
-  pub legal-uses-neither : uses_neither (words_of (macroblock_in bs)) ≡ true
-  legal-uses-neither =
-      let back = macroblock-back (macroblock_in bs) legal-written in
-      (recordable-exactly (words_of (macroblock_in bs)) written.words read-of-record).1 (ap recordable back ∙ recorded_kept bs ∙ sym back)
+  pub legal_uses_neither : uses_neither (words_of (macroblock_in bs)) ≡ true
+  legal_uses_neither =
+      let back = macroblock_back (macroblock_in bs) legal_written in
+      (recordable_exactly (words_of (macroblock_in bs)) written.words read_of_record).1 (ap recordable back ∙ recorded_kept bs ∙ sym back)
 
-  bytes-of-words : record_of (macroblock_of (words_of (macroblock_in bs))) ≡ bs
-  bytes-of-words = ap record_of (macroblock-back (macroblock_in bs) legal-written) ∙ bytes-again bs kept-length.0 h kept-length.1
+  bytes_of_words : record_of (macroblock_of (words_of (macroblock_in bs))) ≡ bs
+  bytes_of_words = ap record_of (macroblock_back (macroblock_in bs) legal_written) ∙ bytes_again bs kept_length.0 h kept_length.1
 
 -- What an accepted operation leaves.
 module _ (fault : Answer) (needed : ℕ) (new room : List ℕ) where
   fits : next fault (room_for needed room) ≡ Accepted → (fault ≡ Accepted) × (needed ≤ length room)
   fits e = by fault refl e
     where
-      room-for : (x : Bool) → ltb (length room) needed ≡ x → cond x (Refused 14 needed) Accepted ≡ Accepted → needed ≤ length room
-      room-for true ex e = absurd (no_accepted e)
-      room-for false ex e = ltb-false (length room) needed ex
+      room_for_lem : (x : Bool) → ltb (length room) needed ≡ x → cond x (Refused 14 needed) Accepted ≡ Accepted → needed ≤ length room
+      room_for_lem true ex e = absurd (no_accepted e)
+      room_for_lem false ex e = ltb-false (length room) needed ex
 
       by : (f : Answer) → fault ≡ f → next f (room_for needed room) ≡ Accepted → (fault ≡ Accepted) × (needed ≤ length room)
-      by Accepted ef e = (ef, room-for (ltb (length room) needed) refl e)
+      by Accepted ef e = (ef, room_for_lem (ltb (length room) needed) refl e)
       by (Refused n p) ef e = absurd (no_accepted e)
 
   front : next fault (room_for needed room) ≡ Accepted → length new ≡ needed → take needed (lent_after (next fault (room_for needed room)) new room) ≡ new
@@ -239,7 +239,7 @@ pub command_again : (ws lent out : List ℕ)
 unfolding read_answer
 command_again ws lent out h u e room =
     let again = recordable_again ws lent out h e room in
-    (again.0, again.1 ∙ (words-exactly ws h (fits (read_fault ws) 24 [] lent e).0).0 u)
+    (again.0, again.1 ∙ (words_exactly ws h (fits (read_fault ws) 24 [] lent e).0).0 u)
 
 -- A record that is written as a command, and read again from the words found there, has its 24 bytes again.
 pub record_again : (bs lent out : List ℕ)
@@ -252,8 +252,8 @@ record_again bs lent out h e room =
     let fault = (fits (record_fault bs) 9 [] lent e).0 in
     let ws = words_of (macroblock_in bs) in
     let found : take 9 (write_room bs lent) ≡ ws = front (record_fault bs) 9 ws lent e (words_length (macroblock_in bs)) in
-    let ok : read_answer ws out ≡ Accepted = roomy (read_fault ws) 24 [] out (read-of-record bs h fault) room in
-    let all : take 24 (read_room ws out) ≡ bs = front (read_fault ws) 24 (record_of (macroblock_of ws)) out ok (record_length_lem (macroblock_of ws)) ∙ bytes-of-words bs h fault in
+    let ok : read_answer ws out ≡ Accepted = roomy (read_fault ws) 24 [] out (read_of_record bs h fault) room in
+    let all : take 24 (read_room ws out) ≡ bs = front (read_fault ws) 24 (record_of (macroblock_of ws)) out ok (record_length_lem (macroblock_of ws)) ∙ bytes_of_words bs h fault in
     (ap (λ (w : List ℕ). read_answer w out) found ∙ ok, ap (λ (w : List ℕ). take 24 (read_room w out)) found ∙ all)
 
 -- "A record is legal if such a command gives it": the test that the writer makes, and that some command gives the record, are
@@ -265,12 +265,12 @@ legal_exactly bs h = (given, tested)
     given : record_fault bs ≡ Accepted → LegalRecord bs
     given e =
         let ws = words_of (macroblock_in bs) in
-        let ok : read_answer ws (replicate 24 0) ≡ Accepted = roomy (read_fault ws) 24 [] (replicate 24 0) (read-of-record bs h e) (omega arith) in
+        let ok : read_answer ws (replicate 24 0) ≡ Accepted = roomy (read_fault ws) 24 [] (replicate 24 0) (read_of_record bs h e) (omega arith) in
         record {
           command = ws;
           are_words = (written bs h e).words;
           accepted = ok;
-          gives = ap (λ (a : Answer). lent_after a (record_of (macroblock_of ws)) (replicate 24 0)) ok ∙ nothing_beyond (macroblock_of ws) ∙ bytes-of-words bs h e;
+          gives = ap (λ (a : Answer). lent_after a (record_of (macroblock_of ws)) (replicate 24 0)) ok ∙ nothing_beyond (macroblock_of ws) ∙ bytes_of_words bs h e;
         }
 
     tested : LegalRecord bs → record_fault bs ≡ Accepted

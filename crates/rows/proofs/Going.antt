@@ -25,12 +25,12 @@ use Rattle.placement.specs.Placing.{macroblock_rules}
 use Rattle.placement.specs.Progressing.{position_after, stage_after, macroblock_next}
 use Rattle.rows.specs.Rows.{Follow, TakenFrom, previous_in, own_in, after_row, AfterRow, OpenRow}
 use Rattle.rows.specs.Steps.{place_in, reach_in, Found}
-use Rattle.rows.specs.Touching.{command_at, reached, AllFit, across_of, down_of, touchedAfter, forward_points, backward_points, forward_after, backward_after, Seen}
+use Rattle.rows.specs.Touching.{command_at, reached, AllFit, across_of, down_of, touched_after, forward_points, backward_points, forward_after, backward_after, Seen}
 use Rattle.rows.specs.Words.{due_bits}
 use Rattle.rows.specs.declared.Taken.{Taken}
 use Rattle.rows.proofs.Keeping.{accepted}
-use Rattle.rows.proofs.Taking.{found-comes, next-is}
-use Rattle.rows.proofs.TouchedLaws.{after_next, fit-more}
+use Rattle.rows.proofs.Taking.{found_comes, next_is}
+use Rattle.rows.proofs.TouchedLaws.{after_next, fit_more}
 use Rattle.rows.specs.Keeping.{Stands}
 
 -- one more command behind others
@@ -91,10 +91,10 @@ module _ (p : Progress) (ws : List ℕ) (column due was at f b : ℕ) (row : Ope
   abbrev StandsAt : ℕ → Progress → Type 0
   StandsAt k q = Stands p column due (forward_after p ws k) (backward_after p ws k) before q
 
-  stands-first : (q : Progress) (k : ℕ) → k ≡ 0 → column ≡ p.position.column → at ≡ 0 → was ≡ 0
+  stands_first : (q : Progress) (k : ℕ) → k ≡ 0 → column ≡ p.position.column → at ≡ 0 → was ≡ 0
       → due ≡ due_bits (not p.stage.in_slice) p.stage.group_start → q ≡ p → StandsAt k q
   unfolding before
-  stands-first q k z ec ea ew ed eq =
+  stands_first q k z ec ea ew ed eq =
       subst (StandsAt k) (sym eq)
       (record {
         open_group = row.open_group;
@@ -115,10 +115,10 @@ module _ (p : Progress) (ws : List ℕ) (column due was at f b : ℕ) (row : Ope
       own : reach_in p column 0 ≡ own_in p column
       own = ap (λ (x : ℕ). between (reach_in p x 0).first (reach_in p column 0).end) ec
 
-  stands-later : (q : Progress) (k m i j : ℕ) → m ≡ p.position.column + i → column ≡ m + 1 → at ≡ 9 * (j + 1) → was ≡ 9 * j → bits (word_at (command_at ws j) 4) 26 26 ≡ 0
+  stands_later : (q : Progress) (k m i j : ℕ) → m ≡ p.position.column + i → column ≡ m + 1 → at ≡ 9 * (j + 1) → was ≡ 9 * j → bits (word_at (command_at ws j) 4) 26 26 ≡ 0
       → due ≡ due_bits (is_set (bits (word_at (command_at ws j) 4) 31 31)) false → q ≡ after_row p m (forward_after p ws k) (backward_after p ws k) (command_at ws j) → StandsAt k q
   unfolding before after_row stage_after position_after
-  stands-later q k m i j em ec ea ew eg ed eq =
+  stands_later q k m i j em ec ea ew eg ed eq =
       subst (StandsAt k) (sym eq)
       (record {
         open_group = ap (λ (x : ℕ). not (is_set x)) eg;
@@ -155,21 +155,21 @@ module _ (p : Progress) (ws : List ℕ) (column due was at f b : ℕ) (row : Ope
     where
       by : Reached p ws g.k g.q → Due p ws g.k due was → StandsAt g.k g.q
       by (inl (z, eq)) (inl (_, ew, ed)) =
-          stands-first g.q g.k z (g.column_is ∙ ap (λ (x : ℕ). p.position.column + x) z ∙ add-zero p.position.column) (g.at_is ∙ ap (λ (x : ℕ). 9 * x) z) ew ed eq
+          stands_first g.q g.k z (g.column_is ∙ ap (λ (x : ℕ). p.position.column + x) z ∙ add-zero p.position.column) (g.at_is ∙ ap (λ (x : ℕ). 9 * x) z) ew ed eq
       by (inl (z, _)) (inr (j, e, _, _, _)) = absurd (omega arith)
       by (inr (j, e, _)) (inl (z, _, _)) = absurd (omega arith)
       by (inr (i, ei, eq)) (inr (j, e, ew, eg, ed)) =
           let same : i ≡ j = omega arith in
-          stands-later g.q g.k (p.position.column + i) i j refl
+          stands_later g.q g.k (p.position.column + i) i j refl
           (g.column_is ∙ ap (λ (x : ℕ). p.position.column + x) ei ∙ sym (add_assoc p.position.column i 1))
           (g.at_is ∙ ap (λ (x : ℕ). 9 * x) e) ew eg ed (eq ∙ ap (λ (x : ℕ). after_row p (p.position.column + i) (forward_after p ws g.k) (backward_after p ws g.k) (command_at ws x)) same)
 
   -- What one more command touches of a reference, by the words of the whole row.
-  touched-more : (points : List ℕ → List (Structure × ℕ)) (k : ℕ) (e : Extent) (c : List ℕ) → c ≡ command_at ws k → column ≡ p.position.column + k
-      → reached p.frame.surface (place_in p column) (points c) (touchedAfter points p.frame.surface p.position ws k e)
-      ≡ touchedAfter points p.frame.surface p.position ws (k + 1) e
-  touched-more points k e c there ec =
-      ap₂ (λ (x : List ℕ) (y : ℕ). reached p.frame.surface (place_in p y) (points x) (touchedAfter points p.frame.surface p.position ws k e)) there ec
+  touched_more : (points : List ℕ → List (Structure × ℕ)) (k : ℕ) (e : Extent) (c : List ℕ) → c ≡ command_at ws k → column ≡ p.position.column + k
+      → reached p.frame.surface (place_in p column) (points c) (touched_after points p.frame.surface p.position ws k e)
+      ≡ touched_after points p.frame.surface p.position ws (k + 1) e
+  touched_more points k e c there ec =
+      ap₂ (λ (x : List ℕ) (y : ℕ). reached p.frame.surface (place_in p y) (points x) (touched_after points p.frame.surface p.position ws k e)) there ec
       ∙ sym (after_next points p.frame.surface p.position ws k e)
 
   -- Behind one more command that is taken.
@@ -180,12 +180,12 @@ module _ (p : Progress) (ws : List ℕ) (column due was at f b : ℕ) (row : Ope
       let c = take (at + 9 - at) (drop at ws) in
       let s = stands g d in
       let ends = subst₂ (λ (x y : ℕ). Found p column x y c due before f' b') g.seen.forward_end g.seen.backward_end found in
-      let comes = found-comes p g.q column due (forward_after p ws g.k) (backward_after p ws g.k) before c s f' b' ends in
+      let comes = found_comes p g.q column due (forward_after p ws g.k) (backward_after p ws g.k) before c s f' b' ends in
       let nine : at + 9 - at ≡ 9 = omega arith in
       let there : c ≡ command_at ws g.k = same_part ws nine g.at_is in
       let long : length c ≡ 9 = length-take (at + 9 - at) (drop at ws) ∙ omega (arith, length-drop at ws) in
-      let forward = touched-more (forward_points p) g.k p.extents.forward c there g.column_is in
-      let backward = touched-more (backward_points p) g.k p.extents.backward c there g.column_is in
+      let forward = touched_more (forward_points p) g.k p.extents.forward c there g.column_is in
+      let backward = touched_more (backward_points p) g.k p.extents.backward c there g.column_is in
       record {
         k = g.k + 1;
         column_is = ap (λ (x : ℕ). x + 1) g.column_is ∙ add_assoc p.position.column g.k 1;
@@ -202,7 +202,7 @@ module _ (p : Progress) (ws : List ℕ) (column due was at f b : ℕ) (row : Ope
             inr (
               g.k,
               refl,
-              next-is p g.q column due (forward_after p ws g.k) (backward_after p ws g.k) before c s _ _ comes.joins
+              next_is p g.q column due (forward_after p ws g.k) (backward_after p ws g.k) before c s _ _ comes.joins
                   ∙ ap₂ (λ (x y : Extent). after_row p column x y c) forward backward
                   ∙ ap₂ (λ (x : ℕ) (y : List ℕ). after_row p x (forward_after p ws (g.k + 1)) (backward_after p ws (g.k + 1)) y) g.column_is there,
             );
@@ -211,10 +211,10 @@ module _ (p : Progress) (ws : List ℕ) (column due was at f b : ℕ) (row : Ope
               forward_end = comes.forward_end ∙ ap (λ (x : Extent). x.end) forward;
               backward_end = comes.backward_end ∙ ap (λ (x : Extent). x.end) backward;
               forward_fit =
-                  fit-more (forward_points p) p.frame.surface p.position ws (across_of p.picture.grid p.picture.forward) (down_of p.picture.grid p.picture.forward) g.k g.seen.forward_fit
+                  fit_more (forward_points p) p.frame.surface p.position ws (across_of p.picture.grid p.picture.forward) (down_of p.picture.grid p.picture.forward) g.k g.seen.forward_fit
                   (subst₂ (λ (x : List ℕ) (y : ℕ). AllFit (across_of p.picture.grid p.picture.forward) (down_of p.picture.grid p.picture.forward) (place_in p y) (forward_points p x)) there g.column_is comes.forward_fits);
               backward_fit =
-                  fit-more (backward_points p) p.frame.surface p.position ws (across_of p.picture.grid p.picture.backward) (down_of p.picture.grid p.picture.backward) g.k g.seen.backward_fit
+                  fit_more (backward_points p) p.frame.surface p.position ws (across_of p.picture.grid p.picture.backward) (down_of p.picture.grid p.picture.backward) g.k g.seen.backward_fit
                   (subst₂ (λ (x : List ℕ) (y : ℕ). AllFit (across_of p.picture.grid p.picture.backward) (down_of p.picture.grid p.picture.backward) (place_in p y) (backward_points p x)) there g.column_is comes.backward_fits);
             };
       }

@@ -64,13 +64,13 @@ module _ (a : Allowed) (one w : ℕ) (part : (h l : ℕ) → T (ltb h 15) → T 
   same_kind : kind_in one ≡ kind_in w
   same_kind = ap₂ (λ (i t : ℕ). cond (is_set i) 0 t) (part 13 13 tt tt) (part 12 8 tt tt)
 
-  same-field : field_in a one ≡ field_in a w
-  same-field = ap (λ (k : ℕ). a.field && eqb k 4) same_kind
+  same_field : field_in a one ≡ field_in a w
+  same_field = ap (λ (k : ℕ). a.field && eqb k 4) same_kind
 
-  same-others : others (field_in a one) one ≡ others (field_in a w) w
-  same-others =
-      ap₂ ◌&&◌ (ap₂ (λ (x : ℕ) (f : Bool). eqb x (flag f)) (part 14 14 tt tt) same-field)
-      (ap₂ ◌&&◌ (ap (λ (x : ℕ). eqb x 0) (part 7 3 tt tt)) (ap₂ (λ (x : ℕ) (f : Bool). eqb x (flag f)) (part 1 0 tt tt) same-field))
+  same_others : others (field_in a one) one ≡ others (field_in a w) w
+  same_others =
+      ap₂ ◌&&◌ (ap₂ (λ (x : ℕ) (f : Bool). eqb x (flag f)) (part 14 14 tt tt) same_field)
+      (ap₂ ◌&&◌ (ap (λ (x : ℕ). eqb x 0) (part 7 3 tt tt)) (ap₂ (λ (x : ℕ) (f : Bool). eqb x (flag f)) (part 1 0 tt tt) same_field))
 
   same_typed : type_permitted a one ≡ type_permitted a w
   same_typed =
@@ -89,10 +89,10 @@ module _ (a : Allowed) (one w : ℕ) (e : with_bits (type_bits a.dct_type one) 2
       ∙ sym (field_kept (type_bits a.dct_type one) 2 2 0 h l t)
       ∙ ap (λ (x : ℕ). bits x h l) e
 
-  dct-bit : (d : Bool) → a.dct_type ≡ d → (bits one 2 2 ≡ 0) ⊎ (bits one 15 15 ≡ 0) → (zero_bits one 15 15 || (a.dct_type && not (is_set (bits one 2 2)))) ≡ true
-  dct-bit true f (inl s) = or_true (zero_bits one 15 15) _ (both_true f (ap (λ (x : ℕ). not (is_set x)) s))
-  dct-bit true f (inr y) = ap (λ (x : ℕ). eqb x 0 || (a.dct_type && not (is_set (bits one 2 2)))) y
-  dct-bit false f s =
+  dct_bit : (d : Bool) → a.dct_type ≡ d → (bits one 2 2 ≡ 0) ⊎ (bits one 15 15 ≡ 0) → (zero_bits one 15 15 || (a.dct_type && not (is_set (bits one 2 2)))) ≡ true
+  dct_bit true f (inl s) = or_true (zero_bits one 15 15) _ (both_true f (ap (λ (x : ℕ). not (is_set x)) s))
+  dct_bit true f (inr y) = ap (λ (x : ℕ). eqb x 0 || (a.dct_type && not (is_set (bits one 2 2)))) y
+  dct_bit false f s =
       let same : bits one 15 15 ≡ 0 =
       sym (field_kept one 31 16 0 15 15 tt)
       ∙ sym (field_kept (with_bits one 31 16 0) 2 2 0 15 15 tt)
@@ -100,18 +100,18 @@ module _ (a : Allowed) (one w : ℕ) (e : with_bits (type_bits a.dct_type one) 2
       ∙ z in
       ap (λ (x : ℕ). eqb x 0 || (a.dct_type && not (is_set (bits one 2 2)))) same
 
-  typed-as : (k : ℕ) → kind_in w ≡ k → others (field_in a w) w ≡ true → type_permitted a w ≡ true → Typed a one k
-  typed-as k ek eo et =
+  typed_as : (k : ℕ) → kind_in w ≡ k → others (field_in a w) w ≡ true → type_permitted a w ≡ true → Typed a one k
+  typed_as k ek eo et =
       record {
         kind = same_kind a one w part ∙ ek;
-        fixed = both_true (dct-bit a.dct_type refl skips) (same-others a one w part ∙ eo);
+        fixed = both_true (dct_bit a.dct_type refl skips) (same_others a one w part ∙ eo);
         permitted = same_typed a one w part ∙ et;
       }
 
   -- of a type other than 04h
-  pub typed-frame : (k : ℕ) → kind_in w ≡ k → eqb k 4 ≡ false → others false w ≡ true → is_set (bits w 13 13) ≡ false → (leb 1 (bits w 12 8) && leb (bits w 12 8) 3) ≡ true → Typed a one k
-  typed-frame k ek four eo ei et =
-      typed-as k ek (ap (λ (f : Bool). others f w) (ap (λ (x : ℕ). a.field && eqb x 4) ek ∙ ap (λ (x : Bool). a.field && x) four ∙ and_false a.field) ∙ eo)
+  pub typed_frame : (k : ℕ) → kind_in w ≡ k → eqb k 4 ≡ false → others false w ≡ true → is_set (bits w 13 13) ≡ false → (leb 1 (bits w 12 8) && leb (bits w 12 8) 3) ≡ true → Typed a one k
+  typed_frame k ek four eo ei et =
+      typed_as k ek (ap (λ (f : Bool). others f w) (ap (λ (x : ℕ). a.field && eqb x 4) ek ∙ ap (λ (x : Bool). a.field && x) four ∙ and_false a.field) ∙ eo)
       (ap (λ (i : Bool). cond i (eqb (bits w 12 8) intra_type) (leb 1 (bits w 12 8) && leb (bits w 12 8) (cond a.field 4 3))) ei ∙ by a.field)
     where
       by : (f : Bool) → (leb 1 (bits w 12 8) && leb (bits w 12 8) (cond f 4 3)) ≡ true
@@ -122,17 +122,17 @@ module _ (a : Allowed) (one w : ℕ) (e : with_bits (type_bits a.dct_type one) 2
 
 -- an intra macroblock and a field prediction, which are not skipped
 module _ (a : Allowed) (one : ℕ) where
-  pub bit-2 : (w : ℕ) → type_bits a.dct_type one ≡ w → bits w 2 2 ≡ 0 → bits one 2 2 ≡ 0
-  bit-2 w e z = type_part a.dct_type one w 2 2 e tt ∙ z
+  pub bit_2 : (w : ℕ) → type_bits a.dct_type one ≡ w → bits w 2 2 ≡ 0 → bits one 2 2 ≡ 0
+  bit_2 w e z = type_part a.dct_type one w 2 2 e tt ∙ z
 
-  pub typed-intra : type_bits a.dct_type one ≡ 0x3a00 → Typed a one 0
-  typed-intra e =
-      typed-as a one 0x3a00 (ap (λ (x : ℕ). with_bits x 2 2 0) e) refl (inl (bit-2 0x3a00 e refl)) 0 refl
+  pub typed_intra : type_bits a.dct_type one ≡ 0x3a00 → Typed a one 0
+  typed_intra e =
+      typed_as a one 0x3a00 (ap (λ (x : ℕ). with_bits x 2 2 0) e) refl (inl (bit_2 0x3a00 e refl)) 0 refl
       (ap (λ (f : Bool). others f 0x3a00) (and_false a.field)) refl
 
-  pub typed-field : a.field ≡ true → type_bits a.dct_type one ≡ 0x4401 → Typed a one 4
-  typed-field f e =
-      typed-as a one 0x4401 (ap (λ (x : ℕ). with_bits x 2 2 0) e) refl (inl (bit-2 0x4401 e refl)) 4 refl
+  pub typed_field : a.field ≡ true → type_bits a.dct_type one ≡ 0x4401 → Typed a one 4
+  typed_field f e =
+      typed_as a one 0x4401 (ap (λ (x : ℕ). with_bits x 2 2 0) e) refl (inl (bit_2 0x4401 e refl)) 4 refl
       (ap (λ (x : Bool). others (x && true) 0x4401) f) (ap (λ (x : Bool). leb 4 (cond x 4 3)) f)
 
 -- ---- word 3
@@ -148,10 +148,10 @@ low_pattern three w e = sym (field_kept three 31 16 0 11 6 tt) ∙ ap (λ (x : �
 
 -- ---- word 4
 module _ (four due : ℕ) (slice group : Bool) (e : bound_bits four ≡ due) (d : due ≡ due_bits slice group) where
-  bound-part : (h l : ℕ) → T (ltb h 31 || ltb 31 l) → T (ltb h 25 || ltb 27 l) → T (ltb h 0 || ltb 4 l)
+  bound_part : (h l : ℕ) → T (ltb h 31 || ltb 31 l) → T (ltb h 25 || ltb 27 l) → T (ltb h 0 || ltb 4 l)
       → bits four h l ≡ bits (due_bits slice group) h l
   unfolding bound_bits
-  bound-part h l s t u =
+  bound_part h l s t u =
       sym (field_kept four 31 31 0 h l s)
       ∙ sym (field_kept (with_bits four 31 31 0) 27 25 0 h l t)
       ∙ sym (field_kept (with_bits (with_bits four 31 31 0) 27 25 0) 4 0 0 h l u)
@@ -168,9 +168,9 @@ module _ (four due : ℕ) (slice group : Bool) (e : bound_bits four ≡ due) (d 
       by false true = c
       by false false = z
 
-  pub first-in-slice : is_set (bits four 30 30) ≡ slice
+  pub first_in_slice : is_set (bits four 30 30) ≡ slice
   unfolding due_bits
-  first-in-slice = ap is_set (bound-part 30 30 tt tt tt) ∙ by slice group
+  first_in_slice = ap is_set (bound_part 30 30 tt tt tt) ∙ by slice group
     where
       by : (s g : Bool) → is_set (bits (due_bits s g) 30 30) ≡ s
       by true true = refl
@@ -178,9 +178,9 @@ module _ (four due : ℕ) (slice group : Bool) (e : bound_bits four ≡ due) (d 
       by false true = refl
       by false false = refl
 
-  pub first-in-group : is_set (bits four 24 24) ≡ group
+  pub first_in_group : is_set (bits four 24 24) ≡ group
   unfolding due_bits
-  first-in-group = ap is_set (bound-part 24 24 tt tt tt) ∙ by slice group
+  first_in_group = ap is_set (bound_part 24 24 tt tt tt) ∙ by slice group
     where
       by : (s g : Bool) → is_set (bits (due_bits s g) 24 24) ≡ g
       by true true = refl
@@ -189,17 +189,17 @@ module _ (four due : ℕ) (slice group : Bool) (e : bound_bits four ≡ due) (d 
       by false false = refl
 
   -- the bits that have one value
-  zero-part : (h l : ℕ) → T (ltb h 31 || ltb 31 l) → T (ltb h 25 || ltb 27 l) → T (ltb h 0 || ltb 4 l)
+  zero_part : (h l : ℕ) → T (ltb h 31 || ltb 31 l) → T (ltb h 25 || ltb 27 l) → T (ltb h 0 || ltb 4 l)
       → bits 0x41000000 h l ≡ 0 → bits 0x40000000 h l ≡ 0 → bits 0x01000000 h l ≡ 0 → bits 0 h l ≡ 0 → zero_bits four h l ≡ true
-  zero-part h l s t u w x y z = eq-eqb (bits four h l) 0 (bound-part h l s t u ∙ each (λ (n : ℕ). bits n h l ≡ 0) w x y z)
+  zero_part h l s t u w x y z = eq-eqb (bits four h l) 0 (bound_part h l s t u ∙ each (λ (n : ℕ). bits n h l ≡ 0) w x y z)
 
-  pub flags-fixed : fixed4 false four ≡ true
-  flags-fixed =
-      both_true (zero-part 29 28 tt tt tt refl refl refl refl)
-      (both_true (zero-part 23 19 tt tt tt refl refl refl refl)
-      (both_true (zero-part 17 17 tt tt tt refl refl refl refl)
-      (both_true (zero-part 15 5 tt tt tt refl refl refl refl)
-      (both_true (zero-part 18 18 tt tt tt refl refl refl refl) (zero-part 16 16 tt tt tt refl refl refl refl)))))
+  pub flags_fixed : fixed4 false four ≡ true
+  flags_fixed =
+      both_true (zero_part 29 28 tt tt tt refl refl refl refl)
+      (both_true (zero_part 23 19 tt tt tt refl refl refl refl)
+      (both_true (zero_part 17 17 tt tt tt refl refl refl refl)
+      (both_true (zero_part 15 5 tt tt tt refl refl refl refl)
+      (both_true (zero_part 18 18 tt tt tt refl refl refl refl) (zero_part 16 16 tt tt tt refl refl refl refl)))))
 
 -- bits other than the choices
 pub choices_kept : (four h l : ℕ) → T (ltb h 18 || ltb 18 l) → T (ltb h 16 || ltb 16 l) → bits (without_choices four) h l ≡ bits four h l
@@ -254,8 +254,8 @@ accepted q c k =
 -- The skip rules of a macroblock of kind k that comes in a P or B picture.
 module _ (q : Progress) (c before : List ℕ) (k : ℕ) (some : 1 ≤ k) (kind : kind_in (word_at c 1) ≡ k)
     (previous : (length before ≡ 0 → ⊥) → q.previous ≡ previous_of (kind_in (word_at before 1)) before) where
-  same-type : bits (word_at before 1) 13 8 ≡ bits (word_at c 1) 13 8 → kind_in (word_at before 1) ≡ kind_in (word_at c 1)
-  same-type e =
+  same_type : bits (word_at before 1) 13 8 ≡ bits (word_at c 1) 13 8 → kind_in (word_at before 1) ≡ kind_in (word_at c 1)
+  same_type e =
       let intra : bits (word_at before 1) 13 13 ≡ bits (word_at c 1) 13 13 = omega arith in
       let type : bits (word_at before 1) 12 8 ≡ bits (word_at c 1) 12 8 = omega arith in
       ap₂ (λ (i t : ℕ). cond (is_set i) 0 t) intra type
@@ -263,14 +263,14 @@ module _ (q : Progress) (c before : List ℕ) (k : ℕ) (some : 1 ≤ k) (kind :
   repeating : Repeated before c → repeats q.previous k c ≡ true
   repeating r =
       let p = previous r.comes in
-      let same : kind_in (word_at before 1) ≡ k = same-type r.kind ∙ kind in
+      let same : kind_in (word_at before 1) ≡ k = same_type r.kind ∙ kind in
       ap (λ (b : Previous). repeats b k c) p
       ∙ both_true
       (both_true (le-leb 1 (kind_in (word_at before 1)) (omega arith)) (eq-eqb _ k same))
       (both_true (both_true (eq-eqb _ _ r.five) (eq-eqb _ _ r.six)) (both_true (eq-eqb _ _ r.seven) (eq-eqb _ _ r.eight)))
 
-  skip-permitted : SkipKept q.picture.coding before c → skip_permitted q.picture.coding q.previous k c ≡ true
-  skip-permitted s = by s.allowed
+  skip_permitted_lem : SkipKept q.picture.coding before c → skip_permitted q.picture.coding q.previous k c ≡ true
+  skip_permitted_lem s = by s.allowed
     where
       by : ((q.picture.coding ≡ 2) × (zero_vectors c ≡ true)) ⊎ ((q.picture.coding ≡ 2 → ⊥) × Repeated before c) → skip_permitted q.picture.coding q.previous k c ≡ true
       by (inl (e, z)) =
@@ -309,9 +309,9 @@ module _ (q : Progress) (c : List ℕ) (four : ℕ) (same : (h l : ℕ) → T (l
         flags =
             ap (λ (x : Position). flags_agree q.stage q.picture.grid x (flags_in (word_at c 4))) at
             ∙ both_true
-            (both_true (exact_flag _ slice (set 30 tt tt ∙ first-in-slice four due slice start kept.bound is)) (ap (λ (x : Bool). not last || x) (set 31 tt tt) ∙ ends.0))
-            (both_true (exact_flag _ start (set 24 tt tt ∙ first-in-group four due slice start kept.bound is)) (ap₂ (λ (x y : Bool). not x || y) (set 26 tt tt) (set 31 tt tt) ∙ ends.1));
-        fixed = free (flags-fixed four due slice start kept.bound is);
+            (both_true (exact_flag _ slice (set 30 tt tt ∙ first_in_slice four due slice start kept.bound is)) (ap (λ (x : Bool). not last || x) (set 31 tt tt) ∙ ends.0))
+            (both_true (exact_flag _ start (set 24 tt tt ∙ first_in_group four due slice start kept.bound is)) (ap₂ (λ (x y : Bool). not x || y) (set 26 tt tt) (set 31 tt tt) ∙ ends.1));
+        fixed = free (flags_fixed four due slice start kept.bound is);
         quantised = ap (λ (x : ℕ). leb 1 x && leb x 31) (sym (same 4 0 tt tt)) ∙ quantiser_kept four kept.quantised;
       }
     where
@@ -326,9 +326,9 @@ motion_as k c = motion k (word_at c 5) (word_at c 6) (word_at c 7) (is_set (bits
 pub keeps_intra : (q : Progress) (c : List ℕ) → AtPlace q c → type_bits (allowed_in q.picture).dct_type (word_at c 1) ≡ 0x3a00 → IntraKept q.picture.coding c → Keeps q c
 unfolding macroblock_of case_of motion_of kept_by blocks_of forward_of backward_of bottom_of predicted vector_words
 keeps_intra q c placed low kept =
-    let t = typed-intra (allowed_in q.picture) (word_at c 1) low in
+    let t = typed_intra (allowed_in q.picture) (word_at c 1) low in
     let z = zero_words c kept.zeros in
-    let skip = ap is_set (bit-2 (allowed_in q.picture) (word_at c 1) 0x3a00 low refl) in
+    let skip = ap is_set (bit_2 (allowed_in q.picture) (word_at c 1) 0x3a00 low refl) in
     let pattern = low_pattern (word_at c 3) 0xfc0 kept.pattern in
     let case = case_of (motion_as (kind_in (word_at c 1)) c) in
     record {
@@ -367,7 +367,7 @@ keeps_intra q c placed low kept =
     zero-copy : (i j : ℕ) → word_at c i ≡ 0 → word_at (vector_words (motion_as 0 c)) j ≡ 0 → copied c i j ≡ true
     zero-copy i j e v =
         eq-eqb (word_at c i) _
-        (e ∙ sym (ap (λ (k : ℕ). word_at (vector_words (motion_as k c)) j) (typed-intra (allowed_in q.picture) (word_at c 1) low).kind ∙ v))
+        (e ∙ sym (ap (λ (k : ℕ). word_at (vector_words (motion_as k c)) j) (typed_intra (allowed_in q.picture) (word_at c 1) low).kind ∙ v))
 
 -- An inter macroblock of kind k, with what its kind says of its blocks and copies.
 pub record OfKind (q : Progress) (k : ℕ) (c : List ℕ) : Type 0 where
@@ -431,7 +431,7 @@ keeps_inter q c before k placed t kept of =
         → (not (is_set (bits (word_at c 1) 2 2)) || skip_permitted q.picture.coding q.previous k c) ≡ true
     skip (inl e) = ap (λ (s : Bool). not s || skip_permitted q.picture.coding q.previous k c) (unskipped e)
     skip (inr s) =
-        or_true (not (is_set (bits (word_at c 1) 2 2))) _ (skip-permitted q c before k of.some t.kind kept.previous s)
+        or_true (not (is_set (bits (word_at c 1) 2 2))) _ (skip_permitted_lem q c before k of.some t.kind kept.previous s)
 
     slice-end : (bits (word_at c 1) 2 2 ≡ 0) ⊎ SkipKept q.picture.coding before c
         → not (is_set (bits (word_at c 1) 2 2) && (is_set (bits (word_at c 4) 30 30) || is_set (bits (word_at c 4) 31 31))) ≡ true

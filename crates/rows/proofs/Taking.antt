@@ -18,7 +18,7 @@ use Rattle.prediction.specs.declared.Extent.{Extent}
 use Rattle.prediction.specs.declared.Line.{Line}
 use Rattle.prediction.specs.declared.Position.{Position}
 use Rattle.prediction.proofs.LineLaws.{in_lines, field_lines, still_reach}
-use Rattle.prediction.proofs.ExtentLaws.{join-end, join_empty}
+use Rattle.prediction.proofs.ExtentLaws.{join_end, join_empty}
 use Rattle.prediction.specs.declared.Structure.{Structure}
 use Rattle.prediction.specs.declared.Structure.TheVariants as structure
 use Rattle.fields.specs.Word.{bits, is_set, with_bits}
@@ -41,7 +41,7 @@ use Rattle.rows.specs.Rows.{after_row}
 use Rattle.rows.specs.Steps.{lines_of, is_predicted, type_in, place_in, reach_as, reach_in, top_in, bottom_in, FieldFits, BackwardFits, IntraFound, FieldFound, FrameFound, Flagged, Coded, Found, AtWord}
 use Rattle.rows.specs.Touching.{uses_fields, points_in, reached, AllFit, across_of, down_of, frames_only, forward_points, backward_points}
 use Rattle.rows.specs.Words.{type_bits, without_choices, FlagsKept, IntraKept, SkipKept, InterKept, FieldKept}
-use Rattle.rows.proofs.Keeping.{AtPlace, at_place, Typed, typed-intra, typed-frame, typed-field, bit-2, and_false, fixed_any, fixed_choices, choices_kept, motion_as, keeps_intra, OfKind, InterRest, keeps_inter}
+use Rattle.rows.proofs.Keeping.{AtPlace, at_place, Typed, typed_intra, typed_frame, typed_field, bit_2, and_false, fixed_any, fixed_choices, choices_kept, motion_as, keeps_intra, OfKind, InterRest, keeps_inter}
 use Rattle.rows.specs.Keeping.{Joins, Stands, Comes}
 
 abbrev extents : Extent → Extent → Extent → Extent → Extents
@@ -90,10 +90,10 @@ fits k p q column w codes hc hr ef ep at e =
     }
 
 module _ (q : Progress) (ws : List ℕ) (placed : AtPlace q ws) where
-  joins-intra : type_bits (allowed_in q.picture).dct_type (word_at ws 1) ≡ 0x3a00 → IntraKept q.picture.coding ws → Joins q ws q.extents.forward q.extents.backward
+  joins_intra : type_bits (allowed_in q.picture).dct_type (word_at ws 1) ≡ 0x3a00 → IntraKept q.picture.coding ws → Joins q ws q.extents.forward q.extents.backward
   unfolding macroblock_of case_of motion_of blocks_of forward_of backward_of bottom_of predicted
-  joins-intra low kept =
-      let k = (typed-intra (allowed_in q.picture) (word_at ws 1) low).kind in
+  joins_intra low kept =
+      let k = (typed_intra (allowed_in q.picture) (word_at ws 1) low).kind in
       record {
         keeps = keeps_intra q ws placed low kept;
         kind_is = ap (λ (x : ℕ). (motion_of (case_of (motion_as x ws))).kind) k ∙ sym k;
@@ -149,7 +149,7 @@ module _ (q : Progress) (ws : List ℕ) (placed : AtPlace q ws) where
         → Fits structure.Frame q q.picture.forward (word_at ws 5) e → Joins q ws (joined q.extents.forward e) (joined q.extents.backward empty_extent)
     unfolding case_of motion_of blocks_of forward_of backward_of bottom_of predicted vector_words
     joins-forward e type coding same seven eight fit =
-        joins-frame 1 e empty_extent (typed-frame (allowed_in q.picture) (word_at ws 1) 0x100 type refl skips 1 refl refl refl refl refl)
+        joins-frame 1 e empty_extent (typed_frame (allowed_in q.picture) (word_at ws 1) 0x100 type refl skips 1 refl refl refl refl refl)
         (record {
           some = omega arith;
           inter = refl;
@@ -176,7 +176,7 @@ module _ (q : Progress) (ws : List ℕ) (placed : AtPlace q ws) where
         → Fits structure.Frame q q.picture.backward (word_at ws 6) e → Joins q ws (joined q.extents.forward empty_extent) (joined q.extents.backward e)
     unfolding case_of motion_of blocks_of forward_of backward_of bottom_of predicted vector_words
     joins-backward e type coding same seven eight fit =
-        joins-frame 2 empty_extent e (typed-frame (allowed_in q.picture) (word_at ws 1) 0x200 type refl skips 2 refl refl refl refl refl)
+        joins-frame 2 empty_extent e (typed_frame (allowed_in q.picture) (word_at ws 1) 0x200 type refl skips 2 refl refl refl refl refl)
         (record {
           some = omega arith;
           inter = refl;
@@ -199,7 +199,7 @@ module _ (q : Progress) (ws : List ℕ) (placed : AtPlace q ws) where
         → Fits structure.Frame q q.picture.backward (word_at ws 6) h → Joins q ws (joined q.extents.forward e) (joined q.extents.backward h)
     unfolding case_of motion_of blocks_of forward_of backward_of bottom_of predicted vector_words
     joins-both e h type coding seven eight fit fit' =
-        joins-frame 3 e h (typed-frame (allowed_in q.picture) (word_at ws 1) 0x300 type refl skips 3 refl refl refl refl refl)
+        joins-frame 3 e h (typed_frame (allowed_in q.picture) (word_at ws 1) 0x300 type refl skips 3 refl refl refl refl refl)
         (record {
           some = omega arith;
           inter = refl;
@@ -224,11 +224,11 @@ module _ (q : Progress) (ws : List ℕ) (placed : AtPlace q ws) where
         → Joins q ws (joined (joined q.extents.forward e) h) (joined q.extents.backward empty_extent)
     unfolding case_of motion_of blocks_of forward_of backward_of bottom_of predicted vector_words
     joins-field e h type permitted coding kept fit fit' =
-        joins-inter 4 e empty_extent h (typed-field (allowed_in q.picture) (word_at ws 1) permitted type)
+        joins-inter 4 e empty_extent h (typed_field (allowed_in q.picture) (word_at ws 1) permitted type)
         (record {
           some = omega arith;
           inter = refl;
-          unskipped = inr (bit-2 (allowed_in q.picture) (word_at ws 1) 0x4401 type refl);
+          unskipped = inr (bit_2 (allowed_in q.picture) (word_at ws 1) 0x4401 type refl);
           back = refl;
           permitted = ap (λ (x : ℕ). coding_permits x 4) coding;
           forward_range = fit.range;
@@ -245,39 +245,39 @@ module _ (q : Progress) (ws : List ℕ) (placed : AtPlace q ws) where
 
 -- What the tests find of a command is true of it where the batch stands. `f` and `b` are what is touched of the references before it.
 module _ (p q : Progress) (column due : ℕ) (f b : Extent) (before ws : List ℕ) (s : Stands p column due f b before q) where
-  picture-is : (P : Picture → Type 0) → P p.picture → P q.picture
-  picture-is P h = subst P (sym s.same_picture) h
+  picture_is : (P : Picture → Type 0) → P p.picture → P q.picture
+  picture_is P h = subst P (sym s.same_picture) h
 
   -- by its word 4, with its choices or without
-  place-by : (four : ℕ) → ((h l : ℕ) → T (ltb h 18 || ltb 18 l) → T (ltb h 16 || ltb 16 l) → bits four h l ≡ bits (word_at ws 4) h l)
+  place_by : (four : ℕ) → ((h l : ℕ) → T (ltb h 18 || ltb 18 l) → T (ltb h 16 || ltb 16 l) → bits four h l ≡ bits (word_at ws 4) h l)
       → (fixed4 false four ≡ true → fixed4 (field_in (allowed_in q.picture) (word_at ws 1)) (word_at ws 4) ≡ true)
       → AtWord (word_at ws 2) column p.position.row → FlagsKept four due (eqb (column + 1) p.picture.grid.columns) → AtPlace q ws
-  place-by four same free position flags =
+  place_by four same free position flags =
       at_place q ws four same free column p.position.row due s.open_group s.here
-      (picture-is (λ (x : Picture). p.position.row < x.grid.rows) s.in_rows)
+      (picture_is (λ (x : Picture). p.position.row < x.grid.rows) s.in_rows)
       position s.due_is
-      (picture-is (λ (x : Picture). FlagsKept four due (eqb (column + 1) x.grid.columns)) flags)
+      (picture_is (λ (x : Picture). FlagsKept four due (eqb (column + 1) x.grid.columns)) flags)
 
-  fits-forward : (k : Structure) (w : ℕ) → vector_in_lines k (across_of p.picture.grid p.picture.forward) (down_of p.picture.grid p.picture.forward k) column p.position.row w ≡ true
+  fits_forward : (k : Structure) (w : ℕ) → vector_in_lines k (across_of p.picture.grid p.picture.forward) (down_of p.picture.grid p.picture.forward k) column p.position.row w ≡ true
       → Fits k q q.picture.forward w (reach_as k p column w)
-  fits-forward k w e =
-      picture-is (λ (x : Picture). Fits k q x.forward w (reach_as k p column w))
+  fits_forward k w e =
+      picture_is (λ (x : Picture). Fits k q x.forward w (reach_as k p column w))
       (fits k p q column w p.picture.forward s.in_columns s.in_rows s.same_frame s.same_picture s.here e)
 
-  fits-backward : (w : ℕ) → BackwardFits p column w → Fits structure.Frame q q.picture.backward w (reach_in p column w)
+  fits_backward : (w : ℕ) → BackwardFits p column w → Fits structure.Frame q q.picture.backward w (reach_in p column w)
   unfolding lines_of
-  fits-backward w e =
-      picture-is (λ (x : Picture). Fits structure.Frame q x.backward w (reach_in p column w))
+  fits_backward w e =
+      picture_is (λ (x : Picture). Fits structure.Frame q x.backward w (reach_in p column w))
       (fits structure.Frame p q column w p.picture.backward s.in_columns s.in_rows s.same_frame s.same_picture s.here e)
 
   -- the rows' line of either field
-  field-line : (i : Bool) (w : ℕ) → FieldFits (field_of i) p column w
+  field_line : (i : Bool) (w : ℕ) → FieldFits (field_of i) p column w
       → vector_in_lines (field_of i) (across_of p.picture.grid p.picture.forward) (down_of p.picture.grid p.picture.forward (field_of i)) column p.position.row w ≡ true
   unfolding lines_of
-  field-line true w e =
+  field_line true w e =
       subst (λ (l : Line). vector_in_lines structure.BottomField (across_of p.picture.grid p.picture.forward) l column p.position.row w ≡ true)
       (field_lines p.picture.grid.rows p.picture.forward.y) e
-  field-line false w e = e
+  field_line false w e = e
 
   -- the vectors of a command by its type: in the frame of a reference, in fields, none
   module _ (alone word : ℕ) (a : Allowed) where
@@ -332,9 +332,9 @@ module _ (p q : Progress) (column due : ℕ) (f b : Extent) (before ws : List �
         backward_fits = subst Backward (sym eu) fu;
       }
 
-  pub found-comes : (f' b' : ℕ) → Found p column f.end b.end ws due before f' b' → Comes p q column f b ws f' b'
+  pub found_comes : (f' b' : ℕ) → Found p column f.end b.end ws due before f' b' → Comes p q column f b ws f' b'
   unfolding lines_of
-  found-comes f' b' h = by h.coded
+  found_comes f' b' h = by h.coded
     where
       a : Allowed
       a = allowed_in p.picture
@@ -343,17 +343,17 @@ module _ (p q : Progress) (column due : ℕ) (f b : Extent) (before ws : List �
       not-intra e z = no (sym (ap is_predicted z) ∙ e)
 
       three : p.picture.coding ≡ 3 → q.picture.coding ≡ 3
-      three e = picture-is (λ (x : Picture). x.coding ≡ 3) e
+      three e = picture_is (λ (x : Picture). x.coding ≡ 3) e
 
       not-one : (n : ℕ) → 1 < n → q.picture.coding ≡ n → q.picture.coding ≡ 1 → ⊥
       not-one n l e z = omega arith
 
       type-is : {w : ℕ} → type_in p ws ≡ w → with_bits (type_bits (allowed_in q.picture).dct_type (word_at ws 1)) 2 2 0 ≡ w
-      type-is {w} e = picture-is (λ (x : Picture). with_bits (type_bits (allowed_in x).dct_type (word_at ws 1)) 2 2 0 ≡ w) e
+      type-is {w} e = picture_is (λ (x : Picture). with_bits (type_bits (allowed_in x).dct_type (word_at ws 1)) 2 2 0 ≡ w) e
 
       rest : InterKept p.picture.coding before ws → (q.picture.coding ≡ 1 → ⊥) → InterRest q before ws
       rest k coded =
-          let kept = picture-is (λ (x : Picture). InterKept x.coding before ws) k in
+          let kept = picture_is (λ (x : Picture). InterKept x.coding before ws) k in
           record { fixed_high = kept.fixed_high; fixed_low = kept.fixed_low; skips = kept.skips; coded = coded; previous = s.previous_is }
 
       -- what no vector touches
@@ -363,44 +363,44 @@ module _ (p q : Progress) (column due : ℕ) (f b : Extent) (before ws : List �
           points-other alone word c type same u false (no_fields alone word c type same z)
 
       framed : Flagged p column f.end b.end ws due → AtPlace q ws
-      framed flags = place-by (word_at ws 4) (λ h l s t. refl) (fixed_any (field_in (allowed_in q.picture) (word_at ws 1)) (word_at ws 4)) h.position flags
+      framed flags = place_by (word_at ws 4) (λ h l s t. refl) (fixed_any (field_in (allowed_in q.picture) (word_at ws 1)) (word_at ws 4)) h.position flags
 
       placed-field : FieldFound p column f.end b.end ws due f' b' → (allowed_in q.picture).field ≡ true
           → type_bits (allowed_in q.picture).dct_type (word_at ws 1) ≡ 0x4401 → AtPlace q ws
       placed-field x permitted low =
-          let t = typed-field (allowed_in q.picture) (word_at ws 1) permitted low in
+          let t = typed_field (allowed_in q.picture) (word_at ws 1) permitted low in
           let fields : field_in (allowed_in q.picture) (word_at ws 1) ≡ true = both_true permitted (eq-eqb _ 4 t.kind) in
-          place-by (without_choices (word_at ws 4)) (choices_kept (word_at ws 4))
+          place_by (without_choices (word_at ws 4)) (choices_kept (word_at ws 4))
           (λ e. ap (λ (y : Bool). fixed4 y (word_at ws 4)) fields ∙ fixed_choices (word_at ws 4) e) h.position x.flags
 
       by-frame : Flagged p column f.end b.end ws due → InterKept p.picture.coding before ws → FrameFound p column f.end b.end ws f' b' → Comes p q column f b ws f' b'
       by-frame flags k (inl x) =
-          let predicted : is_predicted q.picture.coding ≡ true = picture-is (λ (y : Picture). is_predicted y.coding ≡ true) x.coding in
-          let fit = fits-forward structure.Frame (word_at ws 5) x.fits in
+          let predicted : is_predicted q.picture.coding ≡ true = picture_is (λ (y : Picture). is_predicted y.coding ≡ true) x.coding in
+          let fit = fits_forward structure.Frame (word_at ws 5) x.fits in
           comes ((structure.Frame, word_at ws 5) ∷ []) [] (points-frame 0x100 5 a 0x100 x.type refl) (nothing 0x200 6 0x100 (frames_only a) refl x.type refl refl)
           (subst (Joins q ws (joined q.extents.forward (reach_in p column (word_at ws 5)))) (join_empty q.extents.backward)
           (joins-forward q ws (framed flags) before (rest k (not-intra predicted)) (reach_in p column (word_at ws 5)) (type-is x.type) predicted x.same k.seven k.eight fit))
-          (x.forward_is ∙ sym (join-end f (reach_in p column (word_at ws 5)))) x.backward_is (x.fits, tt) tt
+          (x.forward_is ∙ sym (join_end f (reach_in p column (word_at ws 5)))) x.backward_is (x.fits, tt) tt
       by-frame flags k (inr (inl x)) =
           let six = reach_in p column (word_at ws 6) in
           comes [] ((structure.Frame, word_at ws 6) ∷ []) (nothing 0x100 5 0x200 a refl x.type refl refl) (points-frame 0x200 6 (frames_only a) 0x200 x.type refl)
           (subst (λ (y : Extent). Joins q ws y (joined q.extents.backward six)) (join_empty q.extents.forward)
-          (joins-backward q ws (framed flags) before (rest k (not-one 3 (omega arith) (three x.coding))) six (type-is x.type) (three x.coding) x.same k.seven k.eight (fits-backward (word_at ws 6) x.fits)))
-          x.forward_is (x.backward_is ∙ sym (join-end b six)) tt (x.fits, tt)
+          (joins-backward q ws (framed flags) before (rest k (not-one 3 (omega arith) (three x.coding))) six (type-is x.type) (three x.coding) x.same k.seven k.eight (fits_backward (word_at ws 6) x.fits)))
+          x.forward_is (x.backward_is ∙ sym (join_end b six)) tt (x.fits, tt)
       by-frame flags k (inr (inr x)) =
           let five = reach_in p column (word_at ws 5) in
           let six = reach_in p column (word_at ws 6) in
           comes ((structure.Frame, word_at ws 5) ∷ []) ((structure.Frame, word_at ws 6) ∷ []) (points-frame 0x100 5 a 0x300 x.type refl) (points-frame 0x200 6 (frames_only a) 0x300 x.type refl)
-          (joins-both q ws (framed flags) before (rest k (not-one 3 (omega arith) (three x.coding))) five six (type-is x.type) (three x.coding) k.seven k.eight (fits-forward structure.Frame (word_at ws 5) x.forward_fits)
-          (fits-backward (word_at ws 6) x.backward_fits))
-          (x.forward_is ∙ sym (join-end f five)) (x.backward_is ∙ sym (join-end b six)) (x.forward_fits, tt) (x.backward_fits, tt)
+          (joins-both q ws (framed flags) before (rest k (not-one 3 (omega arith) (three x.coding))) five six (type-is x.type) (three x.coding) k.seven k.eight (fits_forward structure.Frame (word_at ws 5) x.forward_fits)
+          (fits_backward (word_at ws 6) x.backward_fits))
+          (x.forward_is ∙ sym (join_end f five)) (x.backward_is ∙ sym (join_end b six)) (x.forward_fits, tt) (x.backward_fits, tt)
 
       by-intra : Flagged p column f.end b.end ws due → IntraFound p column f.end b.end ws f' b' → Comes p q column f b ws f' b'
       by-intra flags x =
           let type : type_in p ws ≡ 0x3a00 = ap (λ (l : ℕ). with_bits l 2 2 0) x.type in
-          let low = picture-is (λ (y : Picture). type_bits (allowed_in y).dct_type (word_at ws 1) ≡ 0x3a00) x.type in
+          let low = picture_is (λ (y : Picture). type_bits (allowed_in y).dct_type (word_at ws 1) ≡ 0x3a00) x.type in
           comes [] [] (nothing 0x100 5 0x3a00 a refl type refl refl) (nothing 0x200 6 0x3a00 (frames_only a) refl type refl refl)
-          (joins-intra q ws (framed flags) low (picture-is (λ (y : Picture). IntraKept y.coding ws) x.kept))
+          (joins_intra q ws (framed flags) low (picture_is (λ (y : Picture). IntraKept y.coding ws) x.kept))
           x.forward_is x.backward_is tt tt
 
       by_field : FieldFound p column f.end b.end ws due f' b' → Comes p q column f b ws f' b'
@@ -408,20 +408,20 @@ module _ (p q : Progress) (column due : ℕ) (f b : Extent) (before ws : List �
           let top = reach_as (top_in ws) p column (word_at ws 5) in
           let bottom = reach_as (bottom_in ws) p column (word_at ws 7) in
           let type : type_in p ws ≡ 0x4401 = ap (λ (l : ℕ). with_bits l 2 2 0) x.type in
-          let low = picture-is (λ (y : Picture). type_bits (allowed_in y).dct_type (word_at ws 1) ≡ 0x4401) x.type in
-          let permitted = picture-is (λ (y : Picture). (allowed_in y).field ≡ true) x.permitted in
+          let low = picture_is (λ (y : Picture). type_bits (allowed_in y).dct_type (word_at ws 1) ≡ 0x4401) x.type in
+          let permitted = picture_is (λ (y : Picture). (allowed_in y).field ≡ true) x.permitted in
           let coding = field_coding q.picture permitted in
-          let top-fits = field-line (is_set (bits (word_at ws 4) 16 16)) (word_at ws 5) x.blocks.first.fits in
-          let bottom-fits = field-line (is_set (bits (word_at ws 4) 18 18)) (word_at ws 7) x.blocks.second.fits in
+          let top-fits = field_line (is_set (bits (word_at ws 4) 16 16)) (word_at ws 5) x.blocks.first.fits in
+          let bottom-fits = field_line (is_set (bits (word_at ws 4) 18 18)) (word_at ws 7) x.blocks.second.fits in
           let fields : uses_fields a (word_at ws 1) ≡ true = both_true x.permitted (eq-eqb _ 0x4401 x.type) in
-          let one_bit = bit-2 (allowed_in q.picture) (word_at ws 1) 0x4401 low refl in
+          let one_bit = bit_2 (allowed_in q.picture) (word_at ws 1) 0x4401 low refl in
           comes ((top_in ws, word_at ws 5) ∷ (bottom_in ws, word_at ws 7) ∷ []) [] (points-other 0x100 5 a 0x4401 type refl true fields)
           (points-other 0x200 6 (frames_only a) 0x4401 type refl false refl)
           (subst (Joins q ws (joined (joined q.extents.forward top) bottom)) (join_empty q.extents.backward)
           (joins-field q ws (placed-field x permitted low) before
           (record { fixed_high = x.kept.fixed_high; fixed_low = x.kept.fixed_low; skips = inl one_bit; coded = not-one 2 (omega arith) coding; previous = s.previous_is })
-          top bottom low permitted coding x.kept (fits-forward (top_in ws) (word_at ws 5) top-fits) (fits-forward (bottom_in ws) (word_at ws 7) bottom-fits)))
-          (x.blocks.second.end_is ∙ ap (λ (n : ℕ). max n bottom.end) (x.blocks.first.end_is ∙ sym (join-end f top)) ∙ sym (join-end (joined f top) bottom)) x.backward_is (top-fits, (bottom-fits, tt)) tt
+          top bottom low permitted coding x.kept (fits_forward (top_in ws) (word_at ws 5) top-fits) (fits_forward (bottom_in ws) (word_at ws 7) bottom-fits)))
+          (x.blocks.second.end_is ∙ ap (λ (n : ℕ). max n bottom.end) (x.blocks.first.end_is ∙ sym (join_end f top)) ∙ sym (join_end (joined f top) bottom)) x.backward_is (top-fits, (bottom-fits, tt)) tt
 
       by : Coded p column f.end b.end ws due before f' b' → Comes p q column f b ws f' b'
       by (inl x) = by_field x
@@ -436,9 +436,9 @@ module _ (p q : Progress) (column due : ℕ) (f b : Extent) (before ws : List �
       ∙ ap extent_in (still_reach p.frame.surface p.picture.grid (place_in p column) s.in_columns s.in_rows)
 
   -- The progress after it.
-  pub next-is : (f' b' : Extent) → Joins q ws f' b' → macroblock_next q ws ≡ after_row p column f' b' ws
+  pub next_is : (f' b' : Extent) → Joins q ws f' b' → macroblock_next q ws ≡ after_row p column f' b' ws
   unfolding macroblock_next progress_after after_row macroblock_of extents_after blocks_of
-  next-is f' b' j =
+  next_is f' b' j =
       same_progress (s.stage_next (flags_in (word_at ws 4))) s.same_frame s.same_picture
       (ap₂ (λ (x : Picture) (y : Position). position_after x.grid y) s.same_picture s.here)
       (ap (λ (k : ℕ). previous_of k ws) j.kind_is)

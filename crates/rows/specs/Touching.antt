@@ -72,17 +72,17 @@ down_of g c k = line_in k g.rows c.y
 
 -- The commands of a row that begins at a position, by their vectors in one reference.
 module _ (points : List ℕ → List (Structure × ℕ)) (s : Surface) (at : Position) (ws : List ℕ) where
-  abbrev pub placeAlong : ℕ → Position
-  placeAlong k = record { column = at.column + k; row = at.row }
+  abbrev pub place_along : ℕ → Position
+  place_along k = record { column = at.column + k; row = at.row }
 
   -- What is touched of it after the first k commands.
-  abbrev pub touchedAfter : ℕ → Extent → Extent
-  touchedAfter zero e = e
-  touchedAfter (suc k) e = reached s (placeAlong k) (points (command_at ws k)) (touchedAfter k e)
+  abbrev pub touched_after : ℕ → Extent → Extent
+  touched_after zero e = e
+  touched_after (suc k) e = reached s (place_along k) (points (command_at ws k)) (touched_after k e)
 
   -- Each vector of the first n keeps the lines of its reference.
   abbrev pub VectorsFit : Line → (Structure → Line) → ℕ → Type 0
-  VectorsFit x y n = (k : ℕ) → k < n → AllFit x y (placeAlong k) (points (command_at ws k))
+  VectorsFit x y n = (k : ℕ) → k < n → AllFit x y (place_along k) (points (command_at ws k))
 
 -- The first byte, for a minimum: where nothing is touched, the highest number of 64 bits.
 abbrev pub lowest_of : Extent → ℕ
@@ -90,7 +90,7 @@ lowest_of e = cond (eqb e.end 0) 18446744073709551615 e.first
 
 -- If `before` is the first byte, for a minimum, of what was touched before the first k commands, `after` is that of what is touched after them.
 abbrev pub Lowered : (List ℕ → List (Structure × ℕ)) → Surface → Position → List ℕ → ℕ → ℕ → ℕ → Type 0
-Lowered points s at ws k before after = (e : Extent) → before ≡ lowest_of e → after ≡ lowest_of (touchedAfter points s at ws k e)
+Lowered points s at ws k before after = (e : Extent) → before ≡ lowest_of e → after ≡ lowest_of (touched_after points s at ws k e)
 
 -- The two references of a progress: type and word of their vectors. Fields are predicted from the forward one alone.
 abbrev pub forward_points : Progress → List ℕ → List (Structure × ℕ)
@@ -103,10 +103,10 @@ abbrev pub backward_points : Progress → List ℕ → List (Structure × ℕ)
 backward_points p = points_in 0x200 6 (frames_only (allowed_in p.picture))
 
 abbrev pub forward_after : Progress → List ℕ → ℕ → Extent
-forward_after p ws k = touchedAfter (forward_points p) p.frame.surface p.position ws k p.extents.forward
+forward_after p ws k = touched_after (forward_points p) p.frame.surface p.position ws k p.extents.forward
 
 abbrev pub backward_after : Progress → List ℕ → ℕ → Extent
-backward_after p ws k = touchedAfter (backward_points p) p.frame.surface p.position ws k p.extents.backward
+backward_after p ws k = touched_after (backward_points p) p.frame.surface p.position ws k p.extents.backward
 
 -- What is known of the first k commands of a row when they have been taken: the ends of what they touch, and that their vectors fit.
 pub record Seen (p : Progress) (ws : List ℕ) (k forward backward : ℕ) : Type 0 where

@@ -52,12 +52,12 @@ module _ (p : Progress) (column : ℕ) (ws : List ℕ) (f : ℕ) where
   abbrev pub BlocksSoFar : ℕ → ℕ → Type 0
   BlocksSoFar block end = ((block ≡ 0) × (end ≡ f)) ⊎ (((block ≡ 1) × BlockFound p column ws 0 f end) ⊎ ((block ≡ 2) × BlocksFound p column ws f end))
 
-  pub blocks-on : (block end r : ℕ) → block < 2 → BlocksSoFar block end → BlockFound p column ws block end r → BlocksSoFar (block + 1) r
-  blocks-on block end r h (inl (z, e)) x = inr (inl (ap (λ (n : ℕ). n + 1) z, subst₂ (λ (m n : ℕ). BlockFound p column ws m n r) z e x))
-  blocks-on block end r h (inr (inl (z, y))) x = inr (inr (ap (λ (n : ℕ). n + 1) z, record { between = end; first = y; second = subst (λ (m : ℕ). BlockFound p column ws m end r) z x }))
-  blocks-on block end r h (inr (inr (z, y))) x = absurd (omega arith)
+  pub blocks_on : (block end r : ℕ) → block < 2 → BlocksSoFar block end → BlockFound p column ws block end r → BlocksSoFar (block + 1) r
+  blocks_on block end r h (inl (z, e)) x = inr (inl (ap (λ (n : ℕ). n + 1) z, subst₂ (λ (m n : ℕ). BlockFound p column ws m n r) z e x))
+  blocks_on block end r h (inr (inl (z, y))) x = inr (inr (ap (λ (n : ℕ). n + 1) z, record { between = end; first = y; second = subst (λ (m : ℕ). BlockFound p column ws m end r) z x }))
+  blocks_on block end r h (inr (inr (z, y))) x = absurd (omega arith)
 
-  pub both-blocks : (block end : ℕ) → 2 ≤ block → BlocksSoFar block end → BlocksFound p column ws f end
-  both-blocks block end h (inl (z, e)) = absurd (omega arith)
-  both-blocks block end h (inr (inl (z, y))) = absurd (omega arith)
-  both-blocks block end h (inr (inr (z, y))) = y
+  pub both_blocks : (block end : ℕ) → 2 ≤ block → BlocksSoFar block end → BlocksFound p column ws f end
+  both_blocks block end h (inl (z, e)) = absurd (omega arith)
+  both_blocks block end h (inr (inl (z, y))) = absurd (omega arith)
+  both_blocks block end h (inr (inr (z, y))) = y

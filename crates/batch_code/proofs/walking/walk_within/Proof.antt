@@ -16,7 +16,7 @@ use Rattle.commands.proofs.Gathering.{whole_fits}
 use Rattle.batch.specs.Walk.{step, going, after}
 use Rattle.batch.proofs.WalkLaws.{stays}
 use Rattle.batch_code.proofs.RowTurn.{turn_row}
-use Rattle.batch_code.proofs.Turns.{turn_by, turn_next, turn-zero, turn-behind, finished}
+use Rattle.batch_code.proofs.Turns.{turn_by, turn_next, turn_zero, turn_behind, finished}
 use Rattle.batch_code.proofs.walking.walk_within.Statement.{statement}
 use Rattle.batch_code.proofs.walking.walk_within.Tie as tie
 
@@ -106,7 +106,7 @@ loop-again : tie.Need-loop-preserved invariant-loop decreases-loop
 loop-again c =
     let s = c.before.before.before.before.before in
     let l = c.before.before.before.loop in
-    (search rules, l.invariant.1 ∙ turn-zero s.args.base l.at l.p s.args.words.now s.requires c.before.before.loop-test.true c.if1.true)
+    (search rules, l.invariant.1 ∙ turn_zero s.args.base l.at l.p s.args.words.now s.requires c.before.before.loop-test.true c.if1.true)
 
 add-place : tie.Need-overflow-add-place invariant-loop decreases-loop
 add-place c = search rules
@@ -115,7 +115,7 @@ returns : tie.Need-returns invariant-loop decreases-loop
 returns c =
     let s = c.before.before.before.before.before.before in
     let l = c.before.before.before.before.loop in
-    sym (l.invariant.1 ∙ turn-behind s.args.base l.at l.p s.args.words.now s.requires c.before.before.before.loop-test.true c.if2.true c.before.if1.false)
+    sym (l.invariant.1 ∙ turn_behind s.args.base l.at l.p s.args.words.now s.requires c.before.before.before.loop-test.true c.if2.true c.before.if1.false)
 
 mul-judge-row : tie.Need-overflow-mul-judge-row invariant-loop decreases-loop
 mul-judge-row c = search rules

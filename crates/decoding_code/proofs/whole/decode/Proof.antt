@@ -9,7 +9,7 @@ use borrow.Author.Rules.{rules}
 use Rattle.batch.specs.declared.Report.{Report}
 use Rattle.batch.specs.declared.Report.TheVariants.{Accepted, Short, Refused}
 use Rattle.batch.specs.contracts.Report as report
-use Rattle.decoding.proofs.Outcomes.{refused, lacks-buffer, lacks-room, writes, has_room}
+use Rattle.decoding.proofs.Outcomes.{refused, lacks-buffer, lacks_room, writes, has_room}
 use Rattle.decoding.proofs.RoomLaws.{Other}
 use Rattle.decoding_code.proofs.whole.decode.Statement.{statement}
 use Rattle.decoding_code.proofs.whole.decode.Tie as tie
@@ -52,7 +52,7 @@ returns-2 c =
     let r = c.before.before.before.before.before in
     let j = r.before.before.before.before in
     let a = j.before.before.before.args in
-    lacks-room a.lengths a.words.now a.log.now _ _ (sym j.judge-batch.ensures ∙ r.before.before.p.given.1) r.report-of.ensures
+    lacks_room a.lengths a.words.now a.log.now _ _ (sym j.judge-batch.ensures ∙ r.before.before.p.given.1) r.report-of.ensures
     _ c.before.before.before.report.given.1 _ c.before.log-length.ensures c.if1.true
 
 write-records-requires : tie.Need-write-records-requires

@@ -15,7 +15,7 @@ use Rattle.commands.specs.declared.NextCommand.TheVariants.{Unknown, Incomplete,
 use Rattle.commands.proofs.CutLaws.{left, left_by, left_next}
 use Rattle.commands.proofs.Gathering.{whole_fits}
 use Rattle.commands.specs.contracts.NextCommand as next-command
-use Rattle.decoding.proofs.LogLaws.{Writing, writing_begins, writing-on, writing_ends, next_fits}
+use Rattle.decoding.proofs.LogLaws.{Writing, writing_begins, writing_on, writing_ends, next_fits}
 use Rattle.decoding_code.proofs.writing.write_records.Statement.{statement}
 use Rattle.decoding_code.proofs.writing.write_records.Tie as tie
 
@@ -109,7 +109,7 @@ loop-again : tie.Need-loop-preserved invariant-loop decreases-loop
 loop-again c =
     let e = c.before.before.before.before.before.before in
     let w = c.before.before.write-next in
-    writing-on e.next.given.0.0 e.next.given.0.1.0 e.before.before.before.before.loop.invariant (stands e) _ _ (fits e).1 w.ensures.0 w.ensures.1 (search rules)
+    writing_on e.next.given.0.0 e.next.given.0.1.0 e.before.before.before.before.loop.invariant (stands e) _ _ (fits e).1 w.ensures.0 w.ensures.1 (search rules)
 
 pub write-records-spec : {M : Type 1} → statement M
 write-records-spec =

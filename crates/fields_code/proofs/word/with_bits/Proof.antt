@@ -3,7 +3,7 @@ use mathlib.Core.Path.{sym, ap, ◌∙◌}
 use Prim.Native.Nat.{ℕ}
 use native.Mathlib.Omega.{arith}
 use Rattle.fields.proofs.Fields.{same_word}
-use Rattle.fields.proofs.Masks.{three, packed, packed-top}
+use Rattle.fields.proofs.Masks.{three, packed, packed_top}
 use borrow.Author.Rules.{rules}
 use Rattle.fields_code.proofs.word.with_bits.Statement.{statement}
 use Rattle.fields_code.proofs.word.with_bits.Tie as tie
@@ -31,7 +31,7 @@ returns-2 c =
     let s = c.before.before.before.before.before in
     let a = s.args in
     let n = c.before.before.before.before.width_of_lem.ensures in
-    packed-top a.word a.value c.before.before.before.before.width_of_lem.result a.lo s.ranges.word.fits c.before.before.ones.ensures c.before.ones2.ensures (omega arith) c.if2.true
+    packed_top a.word a.value c.before.before.before.before.width_of_lem.result a.lo s.ranges.word.fits c.before.before.ones.ensures c.before.ones2.ensures (omega arith) c.if2.true
     ∙ ap (λ (x : ℕ). three a.word a.value x a.lo) n
 
 shl-result-2 : tie.Need-overflow-shl-result-2

@@ -12,7 +12,7 @@ use Rattle.parts.specs.States.{walk_in}
 use Rattle.input.specs.Line.{lengths_of}
 use Rattle.input.specs.Input.{Input, head, body, feed, input_in}
 use Rattle.input.proofs.Feeding.{lengths_gathered, lengths_completed}
-use Rattle.input_code.proofs.HeldBytes.{held_some, in_head, held-length, start-length, filled}
+use Rattle.input_code.proofs.HeldBytes.{held_some, in_head, held_length, start_length, filled}
 use borrow.Author.Rules.{rules}
 use Rattle.input_code.proofs.handing.complete_lengths.Statement.{statement}
 use Rattle.input_code.proofs.handing.complete_lengths.Tie as tie
@@ -37,7 +37,7 @@ returns c =
     let few = c.before.if1.true in
     let p = c.append in
     let g = take a.held a.stream.bytes in
-    let len = held-length a.held a.stream.bytes a.piece.now p.result p.ensures.1 (omega arith) p.ensures.0 in
+    let len = held_length a.held a.stream.bytes a.piece.now p.result p.ensures.1 (omega arith) p.ensures.0 in
     in_head _ s.requires.0
     ∙ ap head (held_some 32 _ (omega arith) ∙ p.ensures.0)
     ∙ sym (lengths_gathered g a.piece.now (omega arith))
@@ -82,7 +82,7 @@ returns-2 c =
     let g = take a.held a.stream.bytes in
     let need = 32 - a.held in
     let size : a.held + need ≡ 32 = omega arith in
-    let len = start-length a.held need 32 a.stream.bytes a.piece.now p.result p.ensures.1 (omega arith) enough size p.ensures.0 in
+    let len = start_length a.held need 32 a.stream.bytes a.piece.now p.result p.ensures.1 (omega arith) enough size p.ensures.0 in
     let some = length-take-le need a.piece.now enough in
     let whole : p.result ≡ g ++ take need a.piece.now =
     sym (take_all 32 p.result (omega (arith, p.ensures.1)))

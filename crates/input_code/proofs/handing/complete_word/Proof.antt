@@ -13,7 +13,7 @@ use Rattle.batch.specs.declared.Lengths.{Lengths}
 use Rattle.parts.specs.States.{walk_in}
 use Rattle.input.specs.Input.{Input, body, feed}
 use Rattle.input.proofs.Feeding.{word_gathered, word_completed}
-use Rattle.input_code.proofs.HeldBytes.{held-length, start-length, filled}
+use Rattle.input_code.proofs.HeldBytes.{held_length, start_length, filled}
 use borrow.Author.Rules.{rules}
 use Rattle.input_code.proofs.handing.complete_word.Statement.{statement}
 use Rattle.input_code.proofs.handing.complete_word.Tie as tie
@@ -48,7 +48,7 @@ returns c =
     let a = c.before.before.before.before.before.args in
     let few = c.before.before.before.if1.true in
     let p = c.before.before.append in
-    let len = held-length a.held a.old a.piece.now p.result p.ensures.1 (omega arith) p.ensures.0 in
+    let len = held_length a.held a.old a.piece.now p.result p.ensures.1 (omega arith) p.ensures.0 in
     c.hold.ensures
     ∙ ap (body a.state.lengths (walk_in a.state)) p.ensures.0
     ∙ sym (word_gathered a.state.lengths (walk_in a.state) (take a.held a.old) a.piece.now (omega arith))
@@ -97,7 +97,7 @@ returns-2 c =
     let g = take a.held a.old in
     let need = 4 - a.held in
     let size : a.held + need ≡ 4 = omega arith in
-    let len = start-length a.held need 4 a.old a.piece.now p.result p.ensures.1 (omega arith) enough size p.ensures.0 in
+    let len = start_length a.held need 4 a.old a.piece.now p.result p.ensures.1 (omega arith) enough size p.ensures.0 in
     let some = length-take-le need a.piece.now enough in
     let whole = filled a.held need 4 a.old a.piece.now p.result p.ensures.1 (omega arith) enough size p.ensures.0 in
     let word = c.before.before.before.before.word_at.ensures ∙ ap number_in (elements_take p.result 4 (omega (arith, p.ensures.1)) ∙ whole) in

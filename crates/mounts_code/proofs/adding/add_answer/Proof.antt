@@ -1,7 +1,7 @@
 -- `add_answer`: the rules in their order.
 use mathlib.Core.Path.{sym, ◌∙◌}
 use Rattle.mounts.specs.Sheets.{sheet}
-use Rattle.mounts.proofs.AddLaws.{first-refused, side-refused, edition-refused, room-refused, addable_added, next_after, stored_sound}
+use Rattle.mounts.proofs.AddLaws.{first_refused, side_refused, edition_refused, room_refused, addable_added, next_after, stored_sound}
 use borrow.Author.Rules.{rules}
 use Rattle.mounts_code.proofs.adding.add_answer.Statement.{statement}
 use Rattle.mounts_code.proofs.adding.add_answer.Tie as tie
@@ -16,7 +16,7 @@ returns : tie.Need-returns
 returns c =
     let j = c.before.before in
     let a = j.before.before.args in
-    c.enum_told.given.1 ∙ sym (first-refused a.sheets.now a.count (sheet a.boat a.edition a.side) _ _ (sym j.judge.ensures.0 ∙ c.enum_told.given.1))
+    c.enum_told.given.1 ∙ sym (first_refused a.sheets.now a.count (sheet a.boat a.edition a.side) _ _ (sym j.judge.ensures.0 ∙ c.enum_told.given.1))
 
 enum-told-2 : tie.Need-enum-told-2
 enum-told-2 c = search rules
@@ -25,7 +25,7 @@ returns-2 : tie.Need-returns-2
 returns-2 c =
     let j = c.before.before.before in
     let a = j.before.before.args in
-    sym (side-refused a.sheets.now a.count (sheet a.boat a.edition a.side) (sym j.judge.ensures.0 ∙ c.before.enum-told2.given.1) c.if1.true)
+    sym (side_refused a.sheets.now a.count (sheet a.boat a.edition a.side) (sym j.judge.ensures.0 ∙ c.before.enum-told2.given.1) c.if1.true)
 
 edition-after-requires : tie.Need-edition-after-requires
 edition-after-requires c κs = search rules
@@ -36,7 +36,7 @@ returns-3 c =
     let a = j.before.before.args in
     let accepted = c.before.before.before.enum-told2.given.1 in
     let next = next_after a.boat a.sheets.now a.count _ _ (j.judge.ensures.1 accepted) c.before.edition-after.ensures in
-    sym (edition-refused a.sheets.now a.count (sheet a.boat a.edition a.side) (sym j.judge.ensures.0 ∙ accepted) c.before.before.if1.false (λ e. c.if2.true (e ∙ sym next)))
+    sym (edition_refused a.sheets.now a.count (sheet a.boat a.edition a.side) (sym j.judge.ensures.0 ∙ accepted) c.before.before.if1.false (λ e. c.if2.true (e ∙ sym next)))
 
 returns-4 : tie.Need-returns-4
 returns-4 c =
@@ -44,7 +44,7 @@ returns-4 c =
     let a = j.before.before.args in
     let accepted = c.before.before.before.before.enum-told2.given.1 in
     let next = next_after a.boat a.sheets.now a.count _ _ (j.judge.ensures.1 accepted) c.before.before.edition-after.ensures in
-    sym (room-refused a.sheets.now a.count (sheet a.boat a.edition a.side) (sym j.judge.ensures.0 ∙ accepted) c.before.before.before.if1.false (c.before.if2.false ∙ next) c.if3.true)
+    sym (room_refused a.sheets.now a.count (sheet a.boat a.edition a.side) (sym j.judge.ensures.0 ∙ accepted) c.before.before.before.if1.false (c.before.if2.false ∙ next) c.if3.true)
 
 returns-5 : tie.Need-returns-5
 returns-5 c =

@@ -1,5 +1,5 @@
 -- `zero_filler`: whether the seven bytes behind the side are zero.
-use Rattle.mounts.proofs.SheetLaws.{zero_filler}
+use Rattle.mounts.proofs.SheetLaws.{zero_filler_lem}
 use borrow.Author.Rules.{rules}
 use Rattle.mounts_code.proofs.records.zero_filler.Statement.{statement}
 use Rattle.mounts_code.proofs.records.zero_filler.Tie as tie
@@ -34,7 +34,7 @@ number-at-requires c κs = search rules
 returns : tie.Need-returns
 returns c =
     let s = c.before.before.before.before.before in
-    zero_filler s.args.sheets.now s.args.k c.number_at.result c.number_at.ensures
+    zero_filler_lem s.args.sheets.now s.args.k c.number_at.result c.number_at.ensures
 
 pub zero-filler-spec : {M : Type 1} → statement M
 zero-filler-spec =

@@ -11,7 +11,7 @@ use Rattle.headers.specs.Words.{word_at}
 use Rattle.headers.proofs.HeaderLaws.{words_few}
 use Rattle.batch.specs.Walk.{going, step}
 use Rattle.parts.specs.States.{walk_in}
-use Rattle.parts_code.proofs.HeldLaws.{asked, held-fewer, from-held, held-completed, then-stopped, then-going, filled}
+use Rattle.parts_code.proofs.HeldLaws.{asked, held_fewer, from_held, held_completed, then_stopped, then_going, filled}
 use Rattle.parts_code.proofs.handing.complete.Statement.{statement}
 use Rattle.parts_code.proofs.handing.complete.Tie as tie
 
@@ -24,7 +24,7 @@ fewer : (c : tie.After-command-words) → (c.before.before.before.args.held < c.
 fewer c =
     let s = c.before.before.before in
     let size : c.command-words.result ≡ asked s.args.state.buffer = c.command-words.ensures in
-    let below = held-fewer s.args.state s.args.held s.requires.0 (buffer-length s) s.requires.1.0 s.requires.1.1 in
+    let below = held_fewer s.args.state s.args.held s.requires.0 (buffer-length s) s.requires.1.0 s.requires.1.1 in
     let few = words_few (word_at s.args.state.buffer 0) in
     (omega arith, (omega arith, size))
 
@@ -58,7 +58,7 @@ after-part : (c : tie.After-walk-on2)
     walk_in c.walk-on2.result ≡ foldl step (walk_in a.state) (take need a.part.now)
 after-part c =
     let s = c.before.before.before.before.before.before.before.before in
-    after c ∙ from-held s.args.state s.args.held s.requires.0 (buffer-length s) s.requires.1.0 s.requires.1.1 _
+    after c ∙ from_held s.args.state s.args.held s.requires.0 (buffer-length s) s.requires.1.0 s.requires.1.1 _
 
 array-read-first : tie.Need-array-read-first
 array-read-first c = search rules
@@ -90,7 +90,7 @@ returns c =
     let a = s.args in (
       c.walk-on.ensures.0
           ∙ ap (foldl step (going a.state.at a.state.progress [])) c.before.before.append.ensures.0
-          ∙ from-held a.state a.held s.requires.0 (buffer-length s) s.requires.1.0 s.requires.1.1 a.part.now,
+          ∙ from_held a.state a.held s.requires.0 (buffer-length s) s.requires.1.0 s.requires.1.1 a.part.now,
       c.walk-on.ensures.1,
     )
 
@@ -125,7 +125,7 @@ returns-2 c =
     let n = w.before.before.before.before.before in
     let a = n.before.before.before.args in
     let need = n.command-words.result - a.held in
-    (then-stopped (walk_in a.state) need a.part.now w.walk-on2.result (after-part w) c.if2.true, w.walk-on2.ensures.1)
+    (then_stopped (walk_in a.state) need a.part.now w.walk-on2.result (after-part w) c.if2.true, w.walk-on2.ensures.1)
 
 mul-walk-on : tie.Need-overflow-mul-walk-on
 mul-walk-on c = omega (arith, fewer c.before.before.before.before.before.before)
@@ -153,11 +153,11 @@ returns-3 c =
     let more = c.before.before.if2.false in
     let below = fewer n in
     let len : length (take need a.part.now) ≡ need = length-take-le need a.part.now (enough w.before.before.before.before) in
-    let none = held-completed a.state a.held s.requires.0 (buffer-length s) s.requires.1.0 s.requires.1.1 (take need a.part.now)
+    let none = held_completed a.state a.held s.requires.0 (buffer-length s) s.requires.1.0 s.requires.1.1 (take need a.part.now)
     (omega arith) t more (after w) in (
       c.walk-on3.ensures.0
           ∙ ap (foldl step (going t.at t.progress [])) (part_rest need a.part.now)
-          ∙ then-going (walk_in a.state) need a.part.now t (after-part w) more none,
+          ∙ then_going (walk_in a.state) need a.part.now t (after-part w) more none,
       c.walk-on3.ensures.1 ∙ w.walk-on2.ensures.1,
     )
 

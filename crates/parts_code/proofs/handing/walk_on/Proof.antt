@@ -8,7 +8,7 @@ use lib.ListN.{length, take, drop, length-drop}
 use Rattle.lists.proofs.Slices.{part_rest}
 use Rattle.batch.specs.Walk.{limit, walk_of}
 use Rattle.parts.specs.States.{gathered, walk_in}
-use Rattle.parts_code.proofs.HeldLaws.{Rest, rest, rest-kept}
+use Rattle.parts_code.proofs.HeldLaws.{Rest, rest, rest_kept}
 use Rattle.parts_code.proofs.handing.walk_on.Statement.{statement}
 use Rattle.parts_code.proofs.handing.walk_on.Tie as tie
 
@@ -83,7 +83,7 @@ returns-2 c =
     let ws = s.args.words.now in
     let stored : take (length ws - used) c.append.result ≡ drop used ws =
     rw (part_rest used ws, length-drop, zero-add) at c.append.ensures.0 in (
-      rest-kept s.args.state.at s.args.state.progress ws w.walk.result _ used (low s) w.walk.ensures l.next.given.1
+      rest_kept s.args.state.at s.args.state.progress ws w.walk.result _ used (low s) w.walk.ensures l.next.given.1
           c.append.result stored,
       refl,
     )

@@ -6,7 +6,7 @@ use borrow.Author.Rules.{rules}
 use lib.ListN.{length, length-map}
 use Rattle.headers.specs.Words.{word_at}
 use Rattle.headers.proofs.HeaderLaws.{words_few}
-use Rattle.parts_code.proofs.HeldLaws.{asked, ended_none, over_none, beyond-none, held-count}
+use Rattle.parts_code.proofs.HeldLaws.{asked, ended_none, over_none, beyond_none, held_count}
 use Rattle.parts_code.proofs.holding.held_words.Statement.{statement}
 use Rattle.parts_code.proofs.holding.held_words.Tie as tie
 
@@ -45,12 +45,12 @@ add-if3 c = omega (arith, fewer c)
 returns-3 : tie.Need-returns-3
 returns-3 c =
     let s = c.before.before.before.before.before.args.t1 in
-    (sym (ap length (beyond-none s c.before.before.before.before.if1.false (fewer c.before).0 c.if3.true)), omega arith)
+    (sym (ap length (beyond_none s c.before.before.before.before.if1.false (fewer c.before).0 c.if3.true)), omega arith)
 
 returns-4 : tie.Need-returns-4
 returns-4 c =
     let s = c.before.before.before.before.before in (
-      held-count s.args.t1 c.before.before.before.before.if1.false (buffer-length s) (fewer c.before).0 c.if3.false,
+      held_count s.args.t1 c.before.before.before.before.if1.false (buffer-length s) (fewer c.before).0 c.if3.false,
       (fewer c.before).1,
     )
 

@@ -10,7 +10,7 @@ use Rattle.prediction.specs.declared.Extent.{Extent}
 use Rattle.prediction.specs.declared.Block.{Block}
 use Rattle.prediction.specs.declared.Block.TheVariants.{Outside, Inside}
 use Rattle.prediction.proofs.TwosComplement.{pair, read_back}
-use Rattle.prediction.proofs.Components.{inside-means}
+use Rattle.prediction.proofs.Components.{inside_means}
 use Rattle.prediction_code.proofs.blocks.block_at.Statement.{statement}
 use Rattle.prediction_code.proofs.blocks.block_at.Tie as tie
 
@@ -78,9 +78,9 @@ block-extent-requires c κs =
     let d = c.before.before.before in
     let x = d.before.before in
     let a = x.before.before.before.before.args in
-    let left = inside-means 16 a.position.column x.before.biased.result 16384 a.grid.columns (sym d.before.inside.ensures ∙ not-false _ d.if1.false) in
+    let left = inside_means 16 a.position.column x.before.biased.result 16384 a.grid.columns (sym d.before.inside.ensures ∙ not-false _ d.if1.false) in
     let down = sym (c.before.inside2.ensures ∙ ap (λ (n : ℕ). inside n a.position.row a.grid.rows (sub_ℕ x.biased2.result 32768)) c.before.before.luma-rows.ensures.0) in
-    let top = inside-means (rows_in a.structure luma) a.position.row x.biased2.result 16384 a.grid.rows (down ∙ not-false _ c.if2.false) in
+    let top = inside_means (rows_in a.structure luma) a.position.row x.biased2.result 16384 a.grid.rows (down ∙ not-false _ c.if2.false) in
     (x.before.biased.ensures.1, omega (arith, left.0), x.biased2.ensures.1, omega (arith, top.0))
 
 returns-3 : tie.Need-returns-3

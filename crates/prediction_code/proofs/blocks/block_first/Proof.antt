@@ -5,7 +5,7 @@ use Rattle.prediction.specs.Addresses.{address}
 use Rattle.prediction.specs.Blocks.{block_extent}
 use Rattle.prediction.proofs.Integers.{both}
 use Rattle.prediction.proofs.AddressGrows.{address_tiles}
-use Rattle.prediction.proofs.LineCode.{first-at}
+use Rattle.prediction.proofs.LineCode.{first_at}
 use Rattle.prediction.proofs.TwosComplement.{pair}
 use Rattle.prediction_code.proofs.blocks.block_first.Statement.{statement}
 use Rattle.prediction_code.proofs.blocks.block_first.Tie as tie
@@ -21,7 +21,7 @@ begins c across e =
     let u = c.before.before.before.before.column-from in
     let s = c.before.before.before.before.before in
     let a = s.args in
-    first-at a.structure (record { pitch = a.pitch; chroma_row = a.chroma_row }) (record { column = a.column; row = a.row }) a.x a.y u.result v.result
+    first_at a.structure (record { pitch = a.pitch; chroma_row = a.chroma_row }) (record { column = a.column; row = a.row }) a.x a.y u.result v.result
     (u.result / 2) (v.result / 2) across ((v.result + (1 - a.y / 32768)) / 4) s.requires.0 s.requires.2 u.ensures.0 v.ensures.0 refl refl e refl
     ∙ ap₂ min (ap (address a.pitch (u.result / 2)) (sym c.before.before.first-row.ensures.0) ∙ sym c.before.address.ensures.0)
     (ap (λ (n : ℕ). address a.pitch (2 * across) (a.chroma_row + n)) (sym c.first-chroma-row.ensures.0))

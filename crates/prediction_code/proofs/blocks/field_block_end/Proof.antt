@@ -6,8 +6,8 @@ use Rattle.prediction.specs.Blocks.{block_extent}
 use Rattle.prediction.specs.Structures.{half_rows, rows_in}
 use Rattle.prediction.proofs.Integers.{both}
 use Rattle.prediction.proofs.AddressGrows.{address_tiles}
-use Rattle.prediction.proofs.ExtentLaws.{between, join-end}
-use Rattle.prediction.proofs.LineCode.{end-at}
+use Rattle.prediction.proofs.ExtentLaws.{between, join_end}
+use Rattle.prediction.proofs.LineCode.{end_at}
 use Rattle.prediction.proofs.TwosComplement.{pair}
 use Rattle.prediction_code.proofs.blocks.field_block_end.Statement.{statement}
 use Rattle.prediction_code.proofs.blocks.field_block_end.Tie as tie
@@ -24,7 +24,7 @@ ends c =
     let u = c.before.before.before.before.before.column-from in
     let s = c.before.before.before.before.before.before in
     let a = s.args in
-    end-at a.structure (record { pitch = a.pitch; chroma_row = a.chroma_row }) (record { column = a.column; row = a.row }) a.x a.y u.result v.result
+    end_at a.structure (record { pitch = a.pitch; chroma_row = a.chroma_row }) (record { column = a.column; row = a.row }) a.x a.y u.result v.result
     ((u.result + 1) / 2 + 15) ((v.result + 1) / 2 + (rows_in a.structure luma - 1)) across.result ((v.result + (1 - a.y / 32768) + 2) / 4 + (half_rows a.structure - 1))
     s.requires.0 s.requires.2 u.ensures.0 v.ensures.0 refl refl across.ensures.0 refl
     ∙ ap₂ (λ (m n : ℕ). max (m + 1) (n + 1)) (ap (address a.pitch ((u.result + 1) / 2 + 15)) (sym c.last_row.ensures.0))
@@ -96,7 +96,7 @@ add-result-2 c =
     let first = c.before.before.before.before.address in
     omega (
       arith,
-      c.join-ends.ensures ∙ join-end (between 0 c.before.address2.result) (between 0 first.result),
+      c.join-ends.ensures ∙ join_end (between 0 c.before.address2.result) (between 0 first.result),
       c.before.address2.ensures.1,
       first.ensures.1,
     )
@@ -106,7 +106,7 @@ returns-2 c =
     let d = c.before.before.before in
     omega (
       arith,
-      c.join-ends.ensures ∙ join-end (between 0 c.before.address2.result) (between 0 d.before.address.result),
+      c.join-ends.ensures ∙ join_end (between 0 c.before.address2.result) (between 0 d.before.address.result),
       c.before.address2.ensures.0,
       ends d,
     )

@@ -1,7 +1,7 @@
 -- `line_of`: the line of n rows of macroblocks under an f code.
 use Rattle.std.proofs.Common.{ℕ, ap, ◌∙◌, rules}
 use Rattle.prediction.specs.Lines.{line_of, line_in}
-use Rattle.prediction.proofs.LineCode.{line-narrow}
+use Rattle.prediction.proofs.LineCode.{line_narrow}
 use Rattle.prediction_code.proofs.lines.line_of.Statement.{statement}
 use Rattle.prediction_code.proofs.lines.line_of.Tie as tie
 
@@ -39,7 +39,7 @@ returns c =
     let rows = e.before.luma-rows in
     let last = e.before.before.last-place in
     let a = e.before.before.before.args in
-    line-narrow rows.result a.n a.code e.exponent.result last.result last.ensures e.exponent.ensures c.limit-of.result c.limit-of.ensures.0
+    line_narrow rows.result a.n a.code e.exponent.result last.result last.ensures e.exponent.ensures c.limit-of.result c.limit-of.ensures.0
     ∙ ap (λ (size : ℕ). line_of size a.n a.code) rows.ensures.0
 
 pub line-of-spec : {M : Type 1} → statement M

@@ -3,7 +3,7 @@ use Rattle.std.proofs.Common.{sym, ap, ◌∙◌, rules}
 use Rattle.prediction.specs.Extents.{empty_extent}
 use Rattle.prediction.specs.declared.Extent.{Extent}
 use borrow.Author.Tests.{not-true, not-false}
-use Rattle.prediction.proofs.LineCode.{reach-before, reach-starts}
+use Rattle.prediction.proofs.LineCode.{reach_before, reach_starts}
 use Rattle.prediction_code.proofs.lines.reach_first.Statement.{statement}
 use Rattle.prediction_code.proofs.lines.reach_first.Tie as tie
 
@@ -24,7 +24,7 @@ returns c =
     let a = x.before.args in
     sym
     (ap (λ (e : Extent). e.first)
-    (reach-before a.structure a.surface (record { column = a.column; row = a.row }) a.word x.x-of.result y.y_of.result x.x-of.ensures.0 y.y_of.ensures.0
+    (reach_before a.structure a.surface (record { column = a.column; row = a.row }) a.word x.x-of.result y.y_of.result x.x-of.ensures.0 y.y_of.ensures.0
     (sym c.before.starts.ensures ∙ not-true _ c.if1.true)))
 
 block-first-requires : tie.Need-block-first-requires
@@ -32,7 +32,7 @@ block-first-requires c κs =
     let y = c.before.before in
     let x = y.before in
     let a = x.before.args in
-    let in-picture = reach-starts a.structure a.surface (record { column = a.column; row = a.row }) a.word x.x-of.result y.y_of.result x.x-of.ensures.0 y.y_of.ensures.0
+    let in-picture = reach_starts a.structure a.surface (record { column = a.column; row = a.row }) a.word x.x-of.result y.y_of.result x.x-of.ensures.0 y.y_of.ensures.0
     (sym c.before.starts.ensures ∙ not-false _ c.if1.false) in
     (x.x-of.ensures.1, in-picture.0, y.y_of.ensures.1, in-picture.1)
 
@@ -45,7 +45,7 @@ returns-2 c =
     c.block-first.ensures
     ∙ ap (λ (e : Extent). e.first)
     (sym
-    (reach-starts a.structure a.surface (record { column = a.column; row = a.row }) a.word x.x-of.result y.y_of.result x.x-of.ensures.0 y.y_of.ensures.0
+    (reach_starts a.structure a.surface (record { column = a.column; row = a.row }) a.word x.x-of.result y.y_of.result x.x-of.ensures.0 y.y_of.ensures.0
     (sym d.before.starts.ensures ∙ not-false _ d.if1.false)).2)
 
 pub reach-first-spec : {M : Type 1} → statement M

@@ -1,7 +1,7 @@
 -- `in_range`: whether the component b - 32768 lies in the range of a code.
 use Rattle.std.proofs.Common.{◌≡◌, ◌*◌, ◌%◌, ◌^◌, true, false, sym, arith, shl_exact, rules, le-leb}
 use borrow.Author.Tests.{lt-leb}
-use Rattle.prediction.proofs.CodeRange.{code-wide, code_by, limit_lt}
+use Rattle.prediction.proofs.CodeRange.{code_wide, code_by, limit_lt}
 use Rattle.prediction_code.proofs.ranges.in_range.Statement.{statement}
 use Rattle.prediction_code.proofs.ranges.in_range.Tie as tie
 
@@ -14,7 +14,7 @@ exponent-requires c κs = search rules
 returns : tie.Need-returns
 returns c =
     let s = c.before.before in
-    sym (code-wide s.args.size s.args.code s.args.b c.before.exponent.result s.pre.0 s.pre.1 c.before.exponent.ensures c.if1.taken)
+    sym (code_wide s.args.size s.args.code s.args.b c.before.exponent.result s.pre.0 s.pre.1 c.before.exponent.ensures c.if1.taken)
 
 cast-limit : tie.Need-cast-limit
 cast-limit c = search rules

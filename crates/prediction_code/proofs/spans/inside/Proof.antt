@@ -2,7 +2,7 @@
 use Rattle.std.proofs.Common.{◌+◌, ◌*◌, ◌/◌, true, false, sym, arith, rules, le-leb}
 use borrow.Author.Tests.{lt-leb}
 use Rattle.prediction.proofs.Integers.{samples_le}
-use Rattle.prediction.proofs.Components.{inside-by}
+use Rattle.prediction.proofs.Components.{inside_by}
 use Rattle.prediction_code.proofs.spans.inside.Statement.{statement}
 use Rattle.prediction_code.proofs.spans.inside.Tie as tie
 
@@ -13,7 +13,7 @@ add-first : tie.Need-overflow-add-first
 add-first c = omega (arith, samples_le c.ranges.size.fits c.ranges.place.fits)
 
 returns : tie.Need-returns
-returns c = let a = c.before.args in sym (inside-by a.size a.place a.b 16384 a.n false (lt-leb 16384 (a.size * a.place + a.b / 2) c.if1.true))
+returns c = let a = c.before.args in sym (inside_by a.size a.place a.b 16384 a.n false (lt-leb 16384 (a.size * a.place + a.b / 2) c.if1.true))
 
 add-result : tie.Need-overflow-add-result
 add-result c = search rules
@@ -28,7 +28,7 @@ add-result-3 : tie.Need-overflow-add-result-3
 add-result-3 c = omega (arith, samples_le c.before.ranges.size.fits c.before.ranges.n.fits)
 
 returns-2 : tie.Need-returns-2
-returns-2 c = let a = c.before.args in sym (inside-by a.size a.place a.b 16384 a.n true (le-leb 16384 (a.size * a.place + a.b / 2) c.if1.false))
+returns-2 c = let a = c.before.args in sym (inside_by a.size a.place a.b 16384 a.n true (le-leb 16384 (a.size * a.place + a.b / 2) c.if1.false))
 
 pub inside-spec : {M : Type 1} → statement M
 inside-spec =

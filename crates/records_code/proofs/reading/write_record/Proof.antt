@@ -1,6 +1,6 @@
 -- `write_record`: writes a macroblock's record into the first 24 bytes of room.
 use mathlib.Core.Path.{refl}
-use Rattle.answers.proofs.LendingLaws.{copied_all, lacks-room, writes}
+use Rattle.answers.proofs.LendingLaws.{copied_all, lacks_room, writes}
 use Rattle.answers.specs.declared.Answer.TheVariants.{Accepted}
 use Rattle.records.specs.Records.{record_of}
 use borrow.Author.Rules.{rules}
@@ -10,7 +10,7 @@ use Rattle.records_code.proofs.reading.write_record.Tie as tie
 returns : tie.Need-returns
 returns c =
     let a = c.before.before.args in
-    lacks-room Accepted 24 (record_of a.macroblock) a.room.now refl c.if1.true
+    lacks_room Accepted 24 (record_of a.macroblock) a.room.now refl c.if1.true
 
 record-of-requires : tie.Need-record-of-requires
 record-of-requires c κs = search rules

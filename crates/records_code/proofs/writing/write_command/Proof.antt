@@ -1,6 +1,6 @@
 -- A refusal leaves room as it was; else the words of the record's macroblock are written.
 use mathlib.Core.Path.{sym, ap, ◌∙◌}
-use Rattle.answers.proofs.LendingLaws.{lacks-room, placed_all, refuses, writes}
+use Rattle.answers.proofs.LendingLaws.{lacks_room, placed_all, refuses, writes}
 use Rattle.macroblock.specs.Macroblocks.{words_of}
 use Rattle.records.specs.Alone.{record_fault, write_answer, write_room}
 use Rattle.records.specs.Records.{macroblock_in}
@@ -32,7 +32,7 @@ returns-2 c =
     let bytes = c.before.before.before.before.before.before.args.bytes.now in
     let room = c.before.before.before.before.before.before.args.room.now in
     let fault = sym c.before.before.before.record-fault.ensures ∙ c.before.enum-told2.given.1 in
-    lacks-room (record_fault bytes) 9 (words_of (macroblock_in bytes)) room fault c.if1.true
+    lacks_room (record_fault bytes) 9 (words_of (macroblock_in bytes)) room fault c.if1.true
 
 macroblock-in-requires : tie.Need-macroblock-in-requires
 macroblock-in-requires c κs = search rules

@@ -11,8 +11,8 @@ use Rattle.prediction.specs.declared.Extent.{Extent}
 use Rattle.prediction.specs.declared.Line.{Line}
 use Rattle.prediction.specs.declared.Surface.{Surface}
 use Rattle.prediction.specs.declared.Structure.TheVariants.{Frame, TopField}
-use Rattle.rows.specs.Touching.{command_at, points_in, across_of, down_of, placeAlong, touchedAfter, lowest_of, Lowered}
-use Rattle.rows.proofs.TouchedLaws.{look-on, all_low, after-above, lowest_touches, lowest_first}
+use Rattle.rows.specs.Touching.{command_at, points_in, across_of, down_of, place_along, touched_after, lowest_of, Lowered}
+use Rattle.rows.proofs.TouchedLaws.{look_on, all_low, after-above, lowest_touches, lowest_first}
 use Rattle.rows_code.proofs.looking.first_after.Statement.{statement}
 use Rattle.rows_code.proofs.looking.first_after.Tie as tie
 
@@ -90,7 +90,7 @@ loop-again c =
       column-is = omega (arith, l.invariant.column_is);
       within = omega (arith, test);
       lowered = λ e h. c.first_next.ensures
-          ∙ look-on points a.surface a.position a.words.now (across_of a.grid a.codes) (down_of a.grid a.codes) (a.at / 9) p.2 e l.invariant.k (omega (arith, l.invariant.i-is, test)) (omega arith)
+          ∙ look_on points a.surface a.position a.words.now (across_of a.grid a.codes) (down_of a.grid a.codes) (a.at / 9) p.2 e l.invariant.k (omega (arith, l.invariant.i-is, test)) (omega arith)
           (omega (arith, p.1, l.invariant.i-is, test)) (omega arith) l.column l.lowest _ l.invariant.column_is (l.invariant.lowered e h) (ap points (same_part a.words.now nine l.invariant.i-is));
     }
 
@@ -99,7 +99,7 @@ returns c =
     let l = c.before.loop in
     let a = c.before.before.before.before.before.before.args in
     let all : l.invariant.k ≡ a.at / 9 = omega (arith, l.invariant.i-is, l.invariant.within, c.loop-test.false) in
-    λ e h. l.invariant.lowered e h ∙ ap (λ (n : ℕ). lowest_of (touchedAfter (points_in a.alone a.word a.allowed) a.surface a.position a.words.now n e)) all
+    λ e h. l.invariant.lowered e h ∙ ap (λ (n : ℕ). lowest_of (touched_after (points_in a.alone a.word a.allowed) a.surface a.position a.words.now n e)) all
 
 returns-2 : tie.Need-returns-2 invariant-loop decreases-loop
 returns-2 c =
@@ -111,7 +111,7 @@ returns-2 c =
     let points = points_in a.alone a.word a.allowed in
     let x = across_of a.grid a.codes in
     let y = down_of a.grid a.codes in
-    let After : Extent → Extent = touchedAfter points a.surface a.position a.words.now k in
+    let After : Extent → Extent = touched_after points a.surface a.position a.words.now k in
     let low = c.before.stays.ensures c.if1.true in
     let left = c.before.before.before.before.before.before.Line-of.ensures in
     let frame =
@@ -125,7 +125,7 @@ returns-2 c =
     let first = seen ∙ lowest_first (After e) some in
     seen
     ∙ sym (after-above points a.surface a.position a.words.now x y (a.at / 9) e p.2 k some
-    (λ j. all_low a.alone a.word a.allowed a.surface (a.position.column + k) x a.grid a.codes (placeAlong points a.surface a.position a.words.now j) (command_at a.words.now j) (After e).first
+    (λ j. all_low a.alone a.word a.allowed a.surface (a.position.column + k) x a.grid a.codes (place_along points a.surface a.position a.words.now j) (command_at a.words.now j) (After e).first
     (omega (arith, low.1, first, frame)) (λ f. omega (arith, low.2 f, first, field))) (omega (arith, l.invariant.i-is, l.invariant.within)))
 
 pub first-after-spec : {M : Type 1} → statement M

@@ -3,7 +3,7 @@ use mathlib.Core.Path.{sym, ap, subst, ◌∙◌}
 use Prim.Native.Nat.{◌/◌}
 use native.Mathlib.Omega.{arith}
 use Rattle.macroblock.specs.declared.Allowed.{Allowed}
-use Rattle.rows.specs.Touching.{points_in, VectorsFit, across_of, down_of, touchedAfter, lowest_of, forward_points}
+use Rattle.rows.specs.Touching.{points_in, VectorsFit, across_of, down_of, touched_after, lowest_of, forward_points}
 use Rattle.rows.proofs.TouchedLaws.{after_nothing, after_is}
 use borrow.Author.Rules.{rules}
 use Rattle.rows_code.proofs.row.forward_after.Statement.{statement}
@@ -36,7 +36,7 @@ returns-2 c =
     let p = d.args.progress in
     after_is (forward_points p) p.frame.surface p.position d.args.words.now (d.args.at / 9) p.extents.forward _ d.args.end d.requires.2.1.forward_end (omega (arith, c.before.before.before.if1.false))
     (c.first-after.ensures p.extents.forward c.before.lowest.ensures
-    ∙ ap (λ (x : Allowed). lowest_of (touchedAfter (points_in 0x100 5 x) p.frame.surface p.position d.args.words.now (d.args.at / 9) p.extents.forward)) c.before.before.allowed-in.ensures)
+    ∙ ap (λ (x : Allowed). lowest_of (touched_after (points_in 0x100 5 x) p.frame.surface p.position d.args.words.now (d.args.at / 9) p.extents.forward)) c.before.before.allowed-in.ensures)
 
 pub forward-after-spec : {M : Type 1} → statement M
 forward-after-spec = tie.close (tie.spec returns allowed-in-requires lowest-requires first-after-requires returns-2)

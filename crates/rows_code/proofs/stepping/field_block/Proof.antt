@@ -9,7 +9,7 @@ use Rattle.progress.specs.declared.Progress.{Progress}
 use Rattle.placement.specs.Blocks.{field_of}
 use Rattle.prediction.specs.Lines.{vector_in_lines}
 use Rattle.prediction.specs.declared.Structure.{Structure}
-use Rattle.prediction.proofs.ExtentLaws.{join-end}
+use Rattle.prediction.proofs.ExtentLaws.{join_end}
 use Rattle.rows.specs.Steps.{lines_of, reach_as, vector_word, FieldFits}
 use Rattle.rows.specs.declared.Lines.{Lines}
 use borrow.Author.Rules.{rules}
@@ -73,7 +73,7 @@ returns-2 c =
     let reach : Structure → ℕ → ℕ = λ k w. (reach_as k p a.column w).end in
     λ h. record {
       fits = fits p a.lines a.column p.position.row (vector_word ws a.block) c.before.before.before.before.before.before.before.before.before.before.requires.0 refl field word c.before.before.before.vector-in-lines.ensures (kept refl c.before.before.if1.false);
-      end_is = c.join-ends.ensures ∙ join-end _ _ ∙ ap (max a.end) (c.before.field-end.ensures ∙ ap₂ reach field word);
+      end_is = c.join-ends.ensures ∙ join_end _ _ ∙ ap (max a.end) (c.before.field-end.ensures ∙ ap₂ reach field word);
     }
 
 pub field-block-spec : {M : Type 1} → statement M

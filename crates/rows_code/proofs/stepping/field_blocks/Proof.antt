@@ -3,7 +3,7 @@ use mathlib.Core.Logic.{inl}
 use mathlib.Core.Path.{refl}
 use Prim.Native.Nat.{◌-◌}
 use native.Mathlib.Omega.{arith}
-use Rattle.rows_code.proofs.Finding.{BlocksSoFar, blocks-on, both-blocks}
+use Rattle.rows_code.proofs.Finding.{BlocksSoFar, blocks_on, both_blocks}
 use Rattle.rows_code.proofs.stepping.field_blocks.Statement.{statement}
 use Rattle.rows_code.proofs.stepping.field_blocks.Tie as tie
 
@@ -32,13 +32,13 @@ loop-again : tie.Need-loop-preserved invariant-loop decreases-loop
 loop-again c =
     let a = c.before.before.before.before.before.args in
     let l = c.before.before.before.loop in
-    blocks-on a.progress a.column a.words.now a.forward l.block l.end _ (omega (arith, c.before.before.loop-test.true)) l.invariant (c.before.field-block.ensures (omega (arith, c.if1.false)))
+    blocks_on a.progress a.column a.words.now a.forward l.block l.end _ (omega (arith, c.before.before.loop-test.true)) l.invariant (c.before.field-block.ensures (omega (arith, c.if1.false)))
 
 returns-2 : tie.Need-returns-2 invariant-loop decreases-loop
 returns-2 c =
     let a = c.before.before.before.args in
     let l = c.before.loop in
-    λ h. both-blocks a.progress a.column a.words.now a.forward l.block l.end (omega (arith, c.loop-test.false)) l.invariant
+    λ h. both_blocks a.progress a.column a.words.now a.forward l.block l.end (omega (arith, c.loop-test.false)) l.invariant
 
 pub field-blocks-spec : {M : Type 1} → statement M
 field-blocks-spec =

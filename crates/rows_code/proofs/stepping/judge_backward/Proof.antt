@@ -2,7 +2,7 @@
 use mathlib.Core.Path.{refl, ap, ◌∙◌}
 use Prim.Native.Nat.{ℕ, max}
 use Rattle.answers.proofs.Judging.{kept}
-use Rattle.prediction.proofs.ExtentLaws.{join-end}
+use Rattle.prediction.proofs.ExtentLaws.{join_end}
 use Rattle.rows.specs.Steps.{reach_in}
 use borrow.Author.Rules.{rules}
 use Rattle.rows_code.proofs.stepping.judge_backward.Statement.{statement}
@@ -40,7 +40,7 @@ returns-4 c =
       same = search rules;
       fits = simp (← c.before.before.before.before.before.before.before.before.before.before.before.before.requires, ← c.before.before.before.before.before.before.before.before.before.word_at.ensures, ← c.before.before.before.vector-in-lines.ensures) (kept refl c.before.before.if3.false);
       forward-is = refl;
-      backward-is = c.join-ends.ensures ∙ join-end _ _ ∙ ap (max _) (c.before.reach-end.ensures ∙ ap (λ (w : ℕ). (reach_in c.before.before.before.before.before.before.before.before.before.before.before.before.args.progress c.before.before.before.before.before.before.before.before.before.before.before.before.args.column w).end) c.before.before.before.before.before.before.before.before.before.word_at.ensures);
+      backward-is = c.join-ends.ensures ∙ join_end _ _ ∙ ap (max _) (c.before.reach-end.ensures ∙ ap (λ (w : ℕ). (reach_in c.before.before.before.before.before.before.before.before.before.before.before.before.args.progress c.before.before.before.before.before.before.before.before.before.before.before.before.args.column w).end) c.before.before.before.before.before.before.before.before.before.word_at.ensures);
     }
 
 pub judge-backward-spec : {M : Type 1} → statement M

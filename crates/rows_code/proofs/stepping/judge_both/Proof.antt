@@ -2,7 +2,7 @@
 use mathlib.Core.Path.{refl, ap, ◌∙◌}
 use Prim.Native.Nat.{ℕ, max}
 use Rattle.answers.proofs.Judging.{kept}
-use Rattle.prediction.proofs.ExtentLaws.{join-end}
+use Rattle.prediction.proofs.ExtentLaws.{join_end}
 use Rattle.rows.specs.Steps.{reach_in}
 use borrow.Author.Rules.{rules}
 use Rattle.rows_code.proofs.stepping.judge_both.Statement.{statement}
@@ -48,8 +48,8 @@ returns-4 c =
       coding = search rules;
       forward-fits = simp (← c.before.before.before.before.before.before.before.before.before.before.before.before.before.before.before.before.before.requires, ← c.before.before.before.before.before.before.before.before.before.before.before.before.before.before.word_at.ensures, ← c.before.before.before.before.before.before.before.vector-in-lines.ensures) (kept refl c.before.before.before.before.before.before.if2.false);
       backward-fits = simp (← c.before.before.before.before.before.before.before.before.before.before.before.before.before.before.before.before.before.requires, ← c.before.before.before.before.before.before.before.before.before.before.before.before.before.word-at2.ensures, ← c.before.before.before.vector-in-lines2.ensures) (kept refl c.before.before.if3.false);
-      forward-is = c.before.before.before.before.join-ends.ensures ∙ join-end _ _ ∙ ap (max _) (c.before.before.before.before.before.reach-end.ensures ∙ ap (λ (w : ℕ). (reach_in c.before.before.before.before.before.before.before.before.before.before.before.before.before.before.before.before.before.args.progress c.before.before.before.before.before.before.before.before.before.before.before.before.before.before.before.before.before.args.column w).end) c.before.before.before.before.before.before.before.before.before.before.before.before.before.before.word_at.ensures);
-      backward-is = c.join-ends2.ensures ∙ join-end _ _ ∙ ap (max _) (c.before.reach-end2.ensures ∙ ap (λ (w : ℕ). (reach_in c.before.before.before.before.before.before.before.before.before.before.before.before.before.before.before.before.before.args.progress c.before.before.before.before.before.before.before.before.before.before.before.before.before.before.before.before.before.args.column w).end) c.before.before.before.before.before.before.before.before.before.before.before.before.before.word-at2.ensures);
+      forward-is = c.before.before.before.before.join-ends.ensures ∙ join_end _ _ ∙ ap (max _) (c.before.before.before.before.before.reach-end.ensures ∙ ap (λ (w : ℕ). (reach_in c.before.before.before.before.before.before.before.before.before.before.before.before.before.before.before.before.before.args.progress c.before.before.before.before.before.before.before.before.before.before.before.before.before.before.before.before.before.args.column w).end) c.before.before.before.before.before.before.before.before.before.before.before.before.before.before.word_at.ensures);
+      backward-is = c.join-ends2.ensures ∙ join_end _ _ ∙ ap (max _) (c.before.reach-end2.ensures ∙ ap (λ (w : ℕ). (reach_in c.before.before.before.before.before.before.before.before.before.before.before.before.before.before.before.before.before.args.progress c.before.before.before.before.before.before.before.before.before.before.before.before.before.before.before.before.before.args.column w).end) c.before.before.before.before.before.before.before.before.before.before.before.before.before.word-at2.ensures);
     }
 
 pub judge-both-spec : {M : Type 1} → statement M
