@@ -106,6 +106,7 @@ field_kept word hi lo value h l t = (packed_back word hi lo value).1 h l (either
     either : (p q : Bool) → ltb h lo ≡ p → ltb hi l ≡ q → T (p || q) → (h < lo) ⊎ (hi < l)
     either true q e f t = inl (ltb-true h lo e)
     either false true e f t = inr (ltb-true hi l f)
+    either false false e f t = elim t [ ]
 
 -- A packed word is a word.
 pub with_bits_lt : (word hi lo value : ℕ) → word < 2 ^ 32 → with_bits word hi lo value < 2 ^ 32
