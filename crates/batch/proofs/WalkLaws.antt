@@ -18,7 +18,7 @@ use Rattle.sequence.specs.Judging.{judge}
 use Rattle.progress.specs.declared.Verdict.{Verdict}
 use Rattle.progress.specs.declared.Verdict.TheVariants.{Next, Stop}
 use Rattle.commands.specs.Commands.{next_in, by_next}
-use Rattle.commands.proofs.Gathering.{gathered, first_whole, by_next}
+use Rattle.commands.proofs.Gathering.{gathered, first_whole, by_next_lem}
 use Rattle.batch.specs.Walk.{Walk, going, stopped, limit, after, step, walk_of}
 use Rattle.batch.specs.declared.Walked.TheVariants.{Going}
 
@@ -71,7 +71,7 @@ module _ (at : ℕ) (p : Progress) (e : p.stage.ended ≡ false) where
   pub walk_next : (ws : List ℕ) → at + length ws ≤ limit
       → foldl step (going at p []) ws
       ≡ by_next (stopped 2 at) (going at p ws) (λ h n. foldl step (after at (at + n) (judge h p (take n ws))) (drop n ws)) (next_in ws)
-  walk_next = by_next read (stopped 2 at) done at limit unknown more last
+  walk_next = by_next_lem read (stopped 2 at) done at limit unknown more last
 
 -- A walk at the limit is stopped by one more word.
 pub full : (at : ℕ) (p : Progress) (g ws : List ℕ) → 1 ≤ length ws → limit ≤ at + length g → foldl step (going at p g) ws ≡ stopped 27 limit

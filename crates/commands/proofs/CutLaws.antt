@@ -14,7 +14,7 @@ use Rattle.headers.specs.declared.Opcode.TheVariants.{Macroblock}
 use Rattle.commands.specs.Commands.{Command, command, next_in, cut, macroblocks_in, by_next}
 use Rattle.commands.specs.declared.NextCommand.{NextCommand}
 use Rattle.commands.specs.declared.NextCommand.TheVariants.{Unknown, Incomplete, Whole}
-use Rattle.commands.proofs.Gathering.{by_next}
+use Rattle.commands.proofs.Gathering.{by_next_lem}
 
 -- The words that are cut from a place on.
 module _ (at : ℕ) where
@@ -45,7 +45,7 @@ module _ (at : ℕ) where
   -- What words cut into, by what they begin with: a word that names no command ends it, a command that is not whole is none.
   pub cut_next : (ws : List ℕ) → cut at [] ws ≡ by_next [] [] (λ h n. command at h (take n ws) ∷ cut (at + n) [] (drop n ws)) (next_in ws)
   unfolding cut
-  cut_next ws = let top = length ws in by_next (cut at) [] done 0 top (unknown top) (more top) (last top) ws (omega arith)
+  cut_next ws = let top = length ws in by_next_lem (cut at) [] done 0 top (unknown top) (more top) (last top) ws (omega arith)
 
 -- The MACROBLOCK commands of what is left of a batch from a word where a command begins.
 abbrev pub left : ℕ → List ℕ → List (List ℕ)

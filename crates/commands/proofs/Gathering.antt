@@ -63,10 +63,10 @@ module _ {A : Type 0} (read : List ℕ → List ℕ → A) (none : A) (done : He
       ap (λ (x : List ℕ). read [] (w ∷ x)) (sym (take-append-drop n ws)) ∙ completed [] w (take n ws) (drop n ws) h (suc n) (omega arith) s c (omega arith)
 
   -- Words, by what they begin with.
-  pub by_next : (ws : List ℕ) → base + length ws ≤ top → read [] ws ≡ by_next none (read ws []) (λ h n. done h n (take n ws) (drop n ws)) (next_in ws)
+  pub by_next_lem : (ws : List ℕ) → base + length ws ≤ top → read [] ws ≡ by_next none (read ws []) (λ h n. done h n (take n ws) (drop n ws)) (next_in ws)
   unfolding next_in
-  by_next [] l = unfold header_of look_up table in refl
-  by_next (w ∷ ws) l = by (eqb n 0) (ltb (suc (length ws)) n) refl refl
+  by_next_lem [] l = unfold header_of look_up table in refl
+  by_next_lem (w ∷ ws) l = by (eqb n 0) (ltb (suc (length ws)) n) refl refl
     where
       n : ℕ
       n = words_in (header_of w)

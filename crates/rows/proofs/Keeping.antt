@@ -47,6 +47,7 @@ below free h l s = left (ltb h (cond free 15 16)) (ltb 31 l) (by free)
   where
     left : (p q : Bool) → T p → T (p || q)
     left true q s = tt
+    left false q s = elim s [ ]
 
     by : (f : Bool) → T (ltb h (cond f 15 16))
     by true = s
