@@ -1,4 +1,5 @@
 // Answers of a check: accepted, or refused with a number and a place.
+#![tactic(auto)]
 
 // Accepted, or refused with document 01's number and place.
 #[derive(Drop)]

@@ -1,4 +1,6 @@
 // Of two answers the one that is given, and an answer that goes on with a rule.
+#![tactic(auto)]
+
 ghost use Rattle.std.specs.Prelude.{◌≡◌};
 ghost use Rattle.answers.specs.Answers.{rule, earlier, unless};
 

@@ -1,4 +1,6 @@
 // What the check of a batch of commands answers.
+#![tactic(auto)]
+
 use progress::{Extents, Progress};
 
 // The lengths in bytes of the four picture buffers that a batch is checked with.

@@ -4,6 +4,8 @@
 //   log are lent for decoding (4), 40 the words (4 each)
 // Each batch is checked whole, in two parts at every cut, and word by word. rust/reference writes the cases and the lines that
 // are due.
+#![tactic(auto)]
+
 mod comparing;
 mod logging;
 mod printing;

@@ -1,4 +1,6 @@
 // Checks a batch of commands.
+#![tactic(auto)]
+
 mod checking;
 mod reporting;
 mod walking;

@@ -1,5 +1,7 @@
 // Reads the lengths of the four picture buffers and a batch from standard input, and prints the checker's line. What is read and
 // what is printed for it: the crate `input`.
+#![tactic(auto)]
+
 ghost use Rattle.std.specs.Prelude.{◌≤◌};
 
 use input::OutputLine;

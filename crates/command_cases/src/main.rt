@@ -3,6 +3,8 @@
 //   2 how many bytes or words are lent, 3 what each lent byte holds before; 4 to 51 the words, little-endian, or the bytes
 // A header's line has its word, its name and its count of words. The others have the answer's number and place, and the lent
 // memory afterwards. rust/reference writes the cases and the lines that are due.
+#![tactic(auto)]
+
 use answers::Answer;
 use headers::{Header, Opcode};
 use libc::{STDIN_FILENO, STDOUT_FILENO};

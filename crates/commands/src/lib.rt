@@ -1,4 +1,6 @@
 // What words begin with: the next command of a batch.
+#![tactic(auto)]
+
 use headers::Header;
 
 // A word that names no command; a command of which words are to come; or a whole one, with its header and its count of words.

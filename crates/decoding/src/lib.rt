@@ -1,1 +1,2 @@
 // What decoding answers: the log of a batch.
+#![tactic(auto)]

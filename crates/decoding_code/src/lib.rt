@@ -1,4 +1,6 @@
 // Decodes a batch to its log.
+#![tactic(auto)]
+
 mod whole;
 mod writing;
 

@@ -1,4 +1,5 @@
 // Bits of a 32-bit word, and numbers as little-endian bytes.
+#![tactic(auto)]
 
 // The two halves of a word.
 #[derive(Drop)]

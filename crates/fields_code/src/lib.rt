@@ -1,4 +1,6 @@
 // Bits of a 32-bit word, and numbers as little-endian bytes. No other crate takes a word apart or puts one together.
+#![tactic(auto)]
+
 mod little_endian;
 mod word;
 

@@ -1,4 +1,5 @@
 // What a word begins, and the words of a command.
+#![tactic(auto)]
 
 // The word that begins a MACROBLOCK command.
 pub const MACROBLOCK_HEADER: u32 = 0x7349_0007;

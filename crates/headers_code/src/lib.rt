@@ -1,4 +1,6 @@
 // Reads what a word begins, and a word of a command.
+#![tactic(auto)]
+
 mod reading;
 mod words;
 

@@ -1,5 +1,7 @@
 // The checker as a library for C. Each function answers what a function of the crates below answers, as numbers in structs; one
 // answers the library's version, and one the size of a state.
+#![tactic(auto)]
+
 mod handing;
 mod mounting;
 mod single;

@@ -1,4 +1,6 @@
 // The program's input, handed over in pieces of bytes, and its line.
+#![tactic(auto)]
+
 use parts::State;
 
 // An input under way. Until its 32 bytes of lengths have come the first `held` bytes are those that have; afterwards, with `begun`,

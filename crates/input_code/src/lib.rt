@@ -1,4 +1,6 @@
 // The line for an input that is handed over in pieces of bytes.
+#![tactic(auto)]
+
 mod answering;
 mod handing;
 mod holding;

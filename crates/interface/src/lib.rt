@@ -1,4 +1,6 @@
 // What the library for C answers, as numbers in structs, and its version.
+#![tactic(auto)]
+
 use batch::Lengths;
 
 // The answer to a batch: document 01's number and place, the four lengths that it reports and, of the same four buffers, the first

@@ -6,6 +6,8 @@
 // A block's line has its vector's word, `beyond` where the vector is beyond its f codes (rule 9), else `range`, and `outside`
 // where the block is not in the picture (rule 10), else `inside`, its end and its first byte. rust/reference writes the cases and the
 // lines that are due.
+#![tactic(auto)]
+
 use libc::{STDIN_FILENO, STDOUT_FILENO};
 use prediction::{Block, Extent, Grid, Position, Structure, Surface};
 use prediction_code::extents;

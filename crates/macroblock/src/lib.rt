@@ -1,4 +1,6 @@
 // Macroblocks, the words of their MACROBLOCK commands, and the rules that those keep by themselves.
+#![tactic(auto)]
+
 use prediction::Vector;
 
 // What an inter macroblock is predicted from, with the vectors that it has and no others.

@@ -1,4 +1,6 @@
 // A MACROBLOCK command read, judged by its own rules, and written.
+#![tactic(auto)]
+
 mod cases;
 mod reading;
 mod rules;

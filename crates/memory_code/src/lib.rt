@@ -1,4 +1,6 @@
 // Reads the state of a check in parts from lent words, and stores it there.
+#![tactic(auto)]
+
 mod places;
 mod reading;
 mod storing;

@@ -5,6 +5,8 @@
 //     mount_sheets shift SIDE X Y                vector X Y
 // A refusal is refuse NUMBER PLACE. Whatever else goes wrong is said on standard error, and then no such line is printed. All
 // arguments but FILE are numbers: ./mounts is the script for people.
+#![tactic(auto)]
+
 mod adding;
 mod arguments;
 mod asking;

@@ -1,4 +1,6 @@
 // Mount sheets by edition: which side of a boat a unit is mounted on, and so which sign a measured shift gets.
+#![tactic(auto)]
+
 use answers::Answer;
 
 // A mount sheet: the unit's side on a boat (0 starboard, 1 port), by the boat's edition.

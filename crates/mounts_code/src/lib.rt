@@ -1,4 +1,6 @@
 // Asks for mount sheets, adds them, and gives a measured shift its sign.
+#![tactic(auto)]
+
 mod adding;
 mod asking;
 mod records;

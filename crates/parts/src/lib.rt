@@ -1,4 +1,6 @@
 // The check of a batch that is handed over in parts.
+#![tactic(auto)]
+
 use batch::Lengths;
 use progress::Progress;
 

@@ -1,4 +1,6 @@
 // Checks a batch that is handed over in parts.
+#![tactic(auto)]
+
 mod answering;
 mod handing;
 mod holding;

@@ -1,4 +1,6 @@
 // What the SURFACE and PICTURE commands say, and the rules that they keep.
+#![tactic(auto)]
+
 use prediction::{Grid, Surface};
 
 // What SURFACE says: the picture's size in samples, and the layout of its buffers.

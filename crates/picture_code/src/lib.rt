@@ -1,4 +1,6 @@
 // SURFACE and PICTURE read, and judged by their own rules.
+#![tactic(auto)]
+
 mod pictures;
 mod surfaces;
 

@@ -1,4 +1,6 @@
 // The rules of a MACROBLOCK command in its picture, and what it touches.
+#![tactic(auto)]
+
 use prediction::{Extent, Structure, Vector};
 
 // A reference picture as one macroblock uses it: not at all, or at a vector, in rows of a structure.

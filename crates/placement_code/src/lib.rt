@@ -1,4 +1,6 @@
 // Judges a MACROBLOCK command in its picture.
+#![tactic(auto)]
+
 mod judging;
 mod placing;
 mod progressing;

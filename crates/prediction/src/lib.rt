@@ -1,5 +1,6 @@
 // Motion vectors, the samples they predict from, and the bytes those samples stand at. No other crate speaks of half samples,
 // chroma halving or byte addresses.
+#![tactic(auto)]
 
 // What a block's rows are rows of: the frame, or one of its two fields, each every second row of the frame (MPEG-2's picture structure).
 #[derive(Drop)]

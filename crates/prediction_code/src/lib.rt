@@ -1,5 +1,7 @@
 // Vectors in their words, their range, and what their blocks touch. No other crate computes with half samples, chroma halves
 // or byte addresses.
+#![tactic(auto)]
+
 mod addresses;
 mod blocks;
 pub mod extents;

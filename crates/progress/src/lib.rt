@@ -1,4 +1,6 @@
 // How far a batch has come, as the rules of its next command read it.
+#![tactic(auto)]
+
 use picture::{Frame, Picture};
 use prediction::{Extent, Position};
 

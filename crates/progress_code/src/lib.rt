@@ -1,4 +1,6 @@
 // The progress before the first word.
+#![tactic(auto)]
+
 ghost use Rattle.std.specs.Prelude.{◌≡◌};
 ghost use Rattle.progress.specs.Progress.{fresh};
 

@@ -1,4 +1,6 @@
 // One command read to its record, and one record written as its command.
+#![tactic(auto)]
+
 mod layout;
 mod numbers;
 mod reading;

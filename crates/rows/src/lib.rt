@@ -1,5 +1,7 @@
 // The MACROBLOCK commands of one row of the picture, as they are judged at speed. Nothing here is a rule: all of it is proved
 // against the rules of single commands.
+#![tactic(auto)]
+
 use macroblock::Allowed;
 use prediction::Line;
 use progress::Progress;

@@ -1,4 +1,6 @@
 // Judges one whole command: its place in the sequence, its rules, and how far the batch has come after it.
+#![tactic(auto)]
+
 mod judging;
 mod stages;
 
