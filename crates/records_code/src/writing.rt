@@ -7,7 +7,7 @@ use answers::Answer;
 
 // Copies words to the front of room.
 fn copy_words(words: &[u32], room: &mut [u32])
-    requires* { do ⌜ (← ⟦words.len()⟧) ≤ (← ⟦room.len()⟧) ⌝ }
+    requires { length words.now ≤ length room.old }
     ensures { room.new ≡ words.now ++ drop (length words.now) room.old }
 {
     let mut i = 0;
