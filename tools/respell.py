@@ -50,6 +50,11 @@ def declared_in(text):
             if m and m.group(1) not in WORDS:
                 names.add(m.group(1))
             continue
+        if module and re.match(r'\s+pub ', line):
+            m = MEMBER.match(line)
+            if m:
+                names.add(m.group(1))
+            continue
         if not line[0].isspace():
             inside = False
             module = line.startswith('module ')

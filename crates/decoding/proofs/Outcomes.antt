@@ -50,8 +50,8 @@ module _ (l : Lengths) (ws log : List ℕ) where
         ∙ ap (λ x'. roomed (log_length x'.grid) log x) (sym (has_ended ws p v).picture)
 
     -- a buffer is too short
-    pub lacks-buffer : Other r → (r ≡ decoded l ws log) × (log ≡ decoded_log l ws log)
-    lacks-buffer o =
+    pub lacks_buffer : Other r → (r ≡ decoded l ws log) × (log ≡ decoded_log l ws log)
+    lacks_buffer o =
         both r log (answer r refl ∙ not_accepted (log_length p.picture.grid) log r o) (sym (unwritten r (log_of ws) log o))
 
     module _ (e : Reported) (a : r ≡ Accepted e) (needed : ℕ) (n : needed ≡ log_length p.picture.grid) where

@@ -120,9 +120,9 @@ module _ (ws : List ℕ) where
     unfolding macroblock_of macroblock_before case_of
     same_case = kind_before (kind_in (w 1)) _ _ _ _ _ h
 
-    pub same-said : without_dct (macroblock_of ws) ≡ macroblock_before ws
+    pub same_said : without_dct (macroblock_of ws) ≡ macroblock_before ws
     unfolding macroblock_of macroblock_before
-    same-said = ap (λ (c : Case). without_dct (assembled (w 1) (w 2) (w 3) (w 4) c)) same_case
+    same_said = ap (λ (c : Case). without_dct (assembled (w 1) (w 2) (w 3) (w 4) c)) same_case
 
     same-vectors : vector_words (motion_in ws) ≡ vector_words_before ws
     unfolding vector_words vector_words_before
@@ -159,9 +159,9 @@ module _ (ws : List ℕ) where
         let c : ℕ → ℕ → List ℕ → Bool = λ i j vs. eqb (w i) (word_at vs j) in
         ap (λ (vs : List ℕ). rule 8 5 (c 5 0 vs) ∷ rule 8 6 (c 6 1 vs) ∷ rule 8 7 (c 7 2 vs) ∷ rule 8 8 (c 8 3 vs) ∷ []) same-vectors
 
-    pub same-rules : command_rules neither ws ≡ command_rules_before ws
+    pub same_rules : command_rules neither ws ≡ command_rules_before ws
     unfolding command_rules command_rules_before
-    same-rules = ap₂ (λ (rs ss : List Rule). rs ++ ss) same-fields same-copies
+    same_rules = ap₂ (λ (rs ss : List Rule). rs ++ ss) same-fields same-copies
 
   -- Type 04h gives 4 or 5 at word 1, as it did, whatever rules of a picture are judged beside those of the command.
   module _ (h : kind_in (word_at ws 1) ≡ 4) where
@@ -172,31 +172,31 @@ module _ (ws : List ℕ) where
         by true e = absurd (omega arith)
         by false e = ap (λ (t : ℕ). leb 1 t && leb t 3) e
 
-    pub four-now : judged (command_rules neither ws) ≡ four_refused (w 1)
+    pub four_now : judged (command_rules neither ws) ≡ four_refused (w 1)
     unfolding command_rules field_rules vector_rules
-    four-now =
+    four_now =
         in_order (command_rules neither ws) tt
         ∙ type_broken (fixed1 neither (w 1)) (type_permitted neither (w 1)) _ _ no-type
         ∙ ap (λ (x : Bool). cond x (Refused 5 1) (Refused 4 1)) (same_fixed1 (w 1))
 
-    pub four-before : judged (command_rules_before ws) ≡ four_refused (w 1)
+    pub four_before : judged (command_rules_before ws) ≡ four_refused (w 1)
     unfolding command_rules_before field_rules_before vector_rules_before
-    four-before = in_order (command_rules_before ws) tt ∙ type_broken (fixed1_before (w 1)) (type_permitted_before (w 1)) _ _ no-type
+    four_before = in_order (command_rules_before ws) tt ∙ type_broken (fixed1_before (w 1)) (type_permitted_before (w 1)) _ _ no-type
 
-    pub four-placed : (ps qs : List Rule) → Each Later ps → Each Later qs → judged (ps ++ command_rules neither ws) ≡ judged (qs ++ command_rules_before ws)
-    four-placed ps qs lp lq =
+    pub four_placed : (ps qs : List Rule) → Each Later ps → Each Later qs → judged (ps ++ command_rules neither ws) ≡ judged (qs ++ command_rules_before ws)
+    four_placed ps qs lp lq =
         judged_append ps (command_rules neither ws)
-        ∙ ap (earlier (judged ps)) four-now
+        ∙ ap (earlier (judged ps)) four_now
         ∙ overruled (fixed1_before (w 1)) ps lp
-        ∙ sym (judged_append qs (command_rules_before ws) ∙ ap (earlier (judged qs)) four-before ∙ overruled (fixed1_before (w 1)) qs lq)
+        ∙ sym (judged_append qs (command_rules_before ws) ∙ ap (earlier (judged qs)) four_before ∙ overruled (fixed1_before (w 1)) qs lq)
 
   -- Every command is answered as it was.
   pub as_before : judged (command_rules neither ws) ≡ judged (command_rules_before ws)
   as_before = by (eqb (kind_in (w 1)) 4) refl
     where
       by : (x : Bool) → eqb (kind_in (w 1)) 4 ≡ x → judged (command_rules neither ws) ≡ judged (command_rules_before ws)
-      by true e = let four = eqb-true (kind_in (w 1)) 4 e in four-now four ∙ sym (four-before four)
-      by false e = ap judged (same-rules e)
+      by true e = let four = eqb-true (kind_in (w 1)) 4 e in four_now four ∙ sym (four_before four)
+      by false e = ap judged (same_rules e)
 
   -- One that is kept says what it said.
   pub said_before : judged (command_rules neither ws) ≡ Accepted → macroblock_of ws ≡ macroblock_before ws
@@ -209,4 +209,4 @@ module _ (ws : List ℕ) where
 
       by-kind : (x : Bool) → eqb (kind_in (w 1)) 4 ≡ x → macroblock_of ws ≡ macroblock_before ws
       by-kind true e = absurd (no (field_allowed neither ws k (field_case (motion_in ws) ∙ e)))
-      by-kind false e = by-dct (is_set (bits (w 1) 15 15)) refl ∙ same-said e
+      by-kind false e = by-dct (is_set (bits (w 1) 15 15)) refl ∙ same_said e

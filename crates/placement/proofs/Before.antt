@@ -23,7 +23,7 @@ use Rattle.macroblock.specs.declared.Case.TheVariants.{Intra, Inter}
 use Rattle.macroblock.specs.declared.Macroblock.{Macroblock}
 use Rattle.macroblock.specs.declared.Prediction.TheVariants.{Forward, Backward, Both, Field}
 use Rattle.macroblock.proofs.AllowedLaws.{field_allowed}
-use Rattle.macroblock.proofs.Before.{same-rules, same-said, said_before, four-placed}
+use Rattle.macroblock.proofs.Before.{same_rules, same_said, said_before, four_placed}
 use Rattle.macroblock.proofs.CaseLaws.{field_case}
 use Rattle.macroblock.proofs.Congruence.{made}
 use Rattle.picture.specs.declared.Picture.{Picture}
@@ -102,9 +102,9 @@ module _ (p : Progress) (ws : List ℕ) where
     any-other : eqb (kind_in (word_at ws 1)) 4 ≡ false → judged (placed ++ command_rules neither ws) ≡ judged (macroblock_rules_before p ws)
     unfolding macroblock_rules_before macroblock_of placed_rules_before
     any-other h =
-        ap (λ (rs : List Rule). judged (placed ++ rs)) (same-rules ws h)
+        ap (λ (rs : List Rule). judged (placed ++ rs)) (same_rules ws h)
         ∙ same_placed (macroblock_of ws) (command_rules_before ws) (field_case (motion_in ws) ∙ h)
-        ∙ ap (λ (m : Macroblock). judged (placed_rules_before p m ws ++ command_rules_before ws)) (same-said ws h)
+        ∙ ap (λ (m : Macroblock). judged (placed_rules_before p m ws ++ command_rules_before ws)) (same_said ws h)
 
     -- the rules behind the first
     abbrev others : List Rule → List Rule
@@ -116,7 +116,7 @@ module _ (p : Progress) (ws : List ℕ) where
     unfolding macroblock_rules_before placed_rules placed_rules_before
     field-type h =
         ap (earlier (answer_by (rule 3 0 (in_sequence p.stage p.picture.grid p.position))))
-        (four-placed ws h (others placed) (others (placed_rules_before p (macroblock_before ws) ws))
+        (four_placed ws h (others placed) (others (placed_rules_before p (macroblock_before ws) ws))
         ((refl, refl), ((refl, refl), ((refl, refl), ((refl, refl), ((refl, refl), ((refl, refl), ((refl, refl), ((refl, refl), ((refl, refl), ((refl, refl), ((refl, refl), tt)))))))))))
         ((refl, refl), ((refl, refl), ((refl, refl), ((refl, refl), ((refl, refl), ((refl, refl), ((refl, refl), ((refl, refl), ((refl, refl), tt))))))))))
 

@@ -153,8 +153,8 @@ module _ (points : List ℕ → List (Structure × ℕ)) (s : Surface) (at : Pos
         let one : k + d + 1 ≡ k + suc d = omega arith in
         subst Stays one (stays-next (k + d) (omega arith) (omega arith) (stays_on d (omega arith)))
 
-    pub after-above : k ≤ n → lowest_of (touched_after points s at ws n e) ≡ lowest_of (touched_after points s at ws k e)
-    after-above h =
+    pub after_above : k ≤ n → lowest_of (touched_after points s at ws n e) ≡ lowest_of (touched_after points s at ws k e)
+    after_above h =
         let all : k + (n - k) ≡ n = omega arith in
         let stays = subst Stays all (stays_on (n - k) (omega arith)) in
         lowest_first (After n e) stays.0 ∙ stays.1 ∙ sym (lowest_first (After k e) some)

@@ -15,31 +15,31 @@ use Rattle.rows.specs.declared.Step.TheVariants.{Kept, Left}
 
 module _ (p : Progress) (column forward backward : ℕ) (ws before : List ℕ) where
   module _ (k : InterKept p.picture.coding before ws) where
-    pub from-forward : (r : Step) → type_in p ws ≡ 0x100 → ByForward p column forward backward ws r → ByFrame p column forward backward ws before r
-    from-forward (Kept f b) t h = (k, inl (h t))
-    from-forward Left t h = tt
+    pub from_forward : (r : Step) → type_in p ws ≡ 0x100 → ByForward p column forward backward ws r → ByFrame p column forward backward ws before r
+    from_forward (Kept f b) t h = (k, inl (h t))
+    from_forward Left t h = tt
 
-    pub from-backward : (r : Step) → type_in p ws ≡ 0x200 → ByBackward p column forward backward ws r → ByFrame p column forward backward ws before r
-    from-backward (Kept f b) t h = (k, inr (inl (h t)))
-    from-backward Left t h = tt
+    pub from_backward : (r : Step) → type_in p ws ≡ 0x200 → ByBackward p column forward backward ws r → ByFrame p column forward backward ws before r
+    from_backward (Kept f b) t h = (k, inr (inl (h t)))
+    from_backward Left t h = tt
 
-    pub from-both : (r : Step) → type_in p ws ≡ 0x300 → ByBoth p column forward backward ws r → ByFrame p column forward backward ws before r
-    from-both (Kept f b) t h = (k, inr (inr (h t)))
-    from-both Left t h = tt
+    pub from_both : (r : Step) → type_in p ws ≡ 0x300 → ByBoth p column forward backward ws r → ByFrame p column forward backward ws before r
+    from_both (Kept f b) t h = (k, inr (inr (h t)))
+    from_both Left t h = tt
 
   module _ (due : ℕ) where
     pub from_field : (r : Step) → typed_as p ws ≡ 0x4401 → ByField p column forward backward ws due r → ByCoded p column forward backward ws due before r
     from_field (Kept f b) t h = inl (h t)
     from_field Left t h = tt
 
-    pub from-frame : (r : Step) → Flagged p column forward backward ws due → ByFrame p column forward backward ws before r → ByCoded p column forward backward ws due before r
-    from-frame (Kept f b) k h = inr (k, inr h)
-    from-frame Left k h = tt
+    pub from_frame : (r : Step) → Flagged p column forward backward ws due → ByFrame p column forward backward ws before r → ByCoded p column forward backward ws due before r
+    from_frame (Kept f b) k h = inr (k, inr h)
+    from_frame Left k h = tt
 
-    pub from-coded : (r : Step) → word_at ws 0 ≡ macroblock_header → AtWord (word_at ws 2) column p.position.row → ByCoded p column forward backward ws due before r
+    pub from_coded : (r : Step) → word_at ws 0 ≡ macroblock_header → AtWord (word_at ws 2) column p.position.row → ByCoded p column forward backward ws due before r
         → StepFrom p column forward backward ws due before r
-    from-coded (Kept f b) h w i = record { header = h; position = w; coded = i }
-    from-coded Left h w i = tt
+    from_coded (Kept f b) h w i = record { header = h; position = w; coded = i }
+    from_coded Left h w i = tt
 
 pub flags_at : {four four' due : ℕ} {last last' : Bool} → FlagsKept four due last → four ≡ four' → last ≡ last' → FlagsKept four' due last'
 flags_at {four} {four'} {due} k e f = subst₂ (λ (x : ℕ) (y : Bool). FlagsKept x due y) e f k

@@ -9,7 +9,7 @@ use borrow.Author.Rules.{rules}
 use Rattle.batch.specs.declared.Report.{Report}
 use Rattle.batch.specs.declared.Report.TheVariants.{Accepted, Short, Refused}
 use Rattle.batch.specs.contracts.Report as report
-use Rattle.decoding.proofs.Outcomes.{refused, lacks-buffer, lacks_room, writes, has_room}
+use Rattle.decoding.proofs.Outcomes.{refused, lacks_buffer, lacks_room, writes, has_room}
 use Rattle.decoding.proofs.RoomLaws.{Other}
 use Rattle.decoding_code.proofs.whole.decode.Statement.{statement}
 use Rattle.decoding_code.proofs.whole.decode.Tie as tie
@@ -41,7 +41,7 @@ returns c =
     let r = c.before in
     let j = r.before.before.before.before in
     let a = j.before.before.before.args in
-    lacks-buffer a.lengths a.words.now a.log.now _ _ (sym j.judge-batch.ensures ∙ r.before.before.p.given.1) r.report-of.ensures
+    lacks_buffer a.lengths a.words.now a.log.now _ _ (sym j.judge-batch.ensures ∙ r.before.before.p.given.1) r.report-of.ensures
     (other r.report-of.result c.match2.keys2)
 
 log-length-requires : tie.Need-log-length-requires

@@ -12,7 +12,7 @@ use Rattle.prediction.specs.declared.Line.{Line}
 use Rattle.prediction.specs.declared.Surface.{Surface}
 use Rattle.prediction.specs.declared.Structure.TheVariants.{Frame, TopField}
 use Rattle.rows.specs.Touching.{command_at, points_in, across_of, down_of, place_along, touched_after, lowest_of, Lowered}
-use Rattle.rows.proofs.TouchedLaws.{look_on, all_low, after-above, lowest_touches, lowest_first}
+use Rattle.rows.proofs.TouchedLaws.{look_on, all_low, after_above, lowest_touches, lowest_first}
 use Rattle.rows_code.proofs.looking.first_after.Statement.{statement}
 use Rattle.rows_code.proofs.looking.first_after.Tie as tie
 
@@ -124,7 +124,7 @@ returns-2 c =
     let some = lowest_touches (After e) (omega (arith, seen, low.0)) in
     let first = seen ∙ lowest_first (After e) some in
     seen
-    ∙ sym (after-above points a.surface a.position a.words.now x y (a.at / 9) e p.2 k some
+    ∙ sym (after_above points a.surface a.position a.words.now x y (a.at / 9) e p.2 k some
     (λ j. all_low a.alone a.word a.allowed a.surface (a.position.column + k) x a.grid a.codes (place_along points a.surface a.position a.words.now j) (command_at a.words.now j) (After e).first
     (omega (arith, low.1, first, frame)) (λ f. omega (arith, low.2 f, first, field))) (omega (arith, l.invariant.i-is, l.invariant.within)))
 

@@ -6,7 +6,7 @@ use Rattle.answers.proofs.Judging.{kept}
 use Rattle.rows.specs.Steps.{lines_of, typed_as}
 use Rattle.rows.specs.Words.{type_bits}
 use Rattle.rows.specs.declared.Lines.{Lines}
-use Rattle.rows_code.proofs.Finding.{from_field, from-frame, flags_at}
+use Rattle.rows_code.proofs.Finding.{from_field, from_frame, flags_at}
 use borrow.Author.Rules.{rules}
 use Rattle.rows_code.proofs.stepping.judge_coded.Statement.{statement}
 use Rattle.rows_code.proofs.stepping.judge_coded.Tie as tie
@@ -56,7 +56,7 @@ returns-3 c =
     let f = c.before.before.before in
     let l = f.before.before.before in
     let a = l.before.before.before.before.before.args in
-    from-frame a.progress a.column a.forward a.backward a.words.now a.before.now a.due c.judge-inter.result
+    from_frame a.progress a.column a.forward a.backward a.words.now a.before.now a.due c.judge-inter.result
     (flags_at (f.flags-keep.ensures (kept refl c.before.before.if2.false)) f.before.word-at2.ensures l.is_last.ensures)
     c.judge-inter.ensures
 

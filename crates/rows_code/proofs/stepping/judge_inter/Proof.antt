@@ -3,7 +3,7 @@ use mathlib.Core.Path.{refl, sym, ap, ◌∙◌}
 use Prim.Native.Nat.{ℕ}
 use Rattle.fields.specs.Word.{with_bits}
 use Rattle.answers.proofs.Judging.{kept}
-use Rattle.rows_code.proofs.Finding.{from-forward, from-backward, from-both}
+use Rattle.rows_code.proofs.Finding.{from_forward, from_backward, from_both}
 use borrow.Author.Rules.{rules}
 use Rattle.rows_code.proofs.stepping.judge_inter.Statement.{statement}
 use Rattle.rows_code.proofs.stepping.judge_inter.Tie as tie
@@ -23,7 +23,7 @@ judge-both-requires c κs = search rules
 returns-2 : tie.Need-returns-2
 returns-2 c =
     let a = c.before.before.before.before.before.before.before.args in
-    from-both a.progress a.column a.forward a.backward a.words.now a.before.now (c.before.before.before.before.inter-keeps.ensures (kept refl c.before.before.before.if1.false)) c.judge-both.result
+    from_both a.progress a.column a.forward a.backward a.words.now a.before.now (c.before.before.before.before.inter-keeps.ensures (kept refl c.before.before.before.if1.false)) c.judge-both.result
     (ap (λ (x : ℕ). with_bits x 2 2 0) (sym c.before.before.before.before.before.before.before.requires.1) ∙ sym c.before.before.with-bits.ensures ∙ c.before.if2.true)
     c.judge-both.ensures
 
@@ -33,7 +33,7 @@ judge-forward-requires c κs = search rules
 returns-3 : tie.Need-returns-3
 returns-3 c =
     let a = c.before.before.before.before.before.before.before.before.args in
-    from-forward a.progress a.column a.forward a.backward a.words.now a.before.now (c.before.before.before.before.before.inter-keeps.ensures (kept refl c.before.before.before.before.if1.false)) c.judge-forward.result
+    from_forward a.progress a.column a.forward a.backward a.words.now a.before.now (c.before.before.before.before.before.inter-keeps.ensures (kept refl c.before.before.before.before.if1.false)) c.judge-forward.result
     (ap (λ (x : ℕ). with_bits x 2 2 0) (sym c.before.before.before.before.before.before.before.before.requires.1) ∙ sym c.before.before.before.with-bits.ensures ∙ c.before.if3.true)
     c.judge-forward.ensures
 
@@ -43,7 +43,7 @@ judge-backward-requires c κs = search rules
 returns-4 : tie.Need-returns-4
 returns-4 c =
     let a = c.before.before.before.before.before.before.before.before.before.args in
-    from-backward a.progress a.column a.forward a.backward a.words.now a.before.now (c.before.before.before.before.before.before.inter-keeps.ensures (kept refl c.before.before.before.before.before.if1.false)) c.judge-backward.result
+    from_backward a.progress a.column a.forward a.backward a.words.now a.before.now (c.before.before.before.before.before.before.inter-keeps.ensures (kept refl c.before.before.before.before.before.if1.false)) c.judge-backward.result
     (ap (λ (x : ℕ). with_bits x 2 2 0) (sym c.before.before.before.before.before.before.before.before.before.requires.1) ∙ sym c.before.before.before.before.with-bits.ensures ∙ c.before.if4.true)
     c.judge-backward.ensures
 

@@ -1,6 +1,6 @@
 -- `judge_next`: the command at a column of the progress's row.
 use mathlib.Core.Path.{sym, ◌∙◌}
-use Rattle.rows_code.proofs.Finding.{from-coded, at_word}
+use Rattle.rows_code.proofs.Finding.{from_coded, at_word}
 use borrow.Author.Rules.{rules}
 use Rattle.rows_code.proofs.stepping.judge_next.Statement.{statement}
 use Rattle.rows_code.proofs.stepping.judge_next.Tie as tie
@@ -28,7 +28,7 @@ returns-3 c =
     let w = c.before.before in
     let h = w.before.before in
     let a = h.before.before.before.before.args in
-    from-coded a.progress a.column a.forward a.backward a.words.now a.before.now a.due c.judge-coded.result
+    from_coded a.progress a.column a.forward a.backward a.words.now a.before.now a.due c.judge-coded.result
     (search rules)
     (at_word h.before.place-word.ensures (sym c.before.if2.false ∙ w.word-at2.ensures))
     c.judge-coded.ensures
