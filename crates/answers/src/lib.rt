@@ -2,7 +2,7 @@
 #![tactic(auto)]
 
 // Accepted, or refused with document 01's number and place.
-#[derive(Drop)]
+#[derive(Clone, Copy)]
 pub enum Answer {
     Accepted,
     Refused(u8, u64),

@@ -5,7 +5,7 @@ use progress::{Extents, Progress};
 
 // The lengths in bytes of the four picture buffers that a batch is checked with.
 #[repr(C)]
-#[derive(Drop)]
+#[derive(Clone, Copy)]
 pub struct Lengths {
     pub source: u64,
     pub reconstructed: u64,
@@ -14,7 +14,7 @@ pub struct Lengths {
 }
 
 // What is reported of a batch that keeps every rule but the one on buffer length: what it touches of each buffer.
-#[derive(Drop)]
+#[derive(Clone, Copy)]
 pub struct Reported {
     pub extents: Extents,
 }
@@ -24,7 +24,7 @@ pub const VALUES: usize = 8;
 
 // What the checker answers: accepted; refused because lent memory is too short (number and place), both with what is reported; or
 // refused by another rule (number and place), with nothing.
-#[derive(Drop)]
+#[derive(Clone, Copy)]
 pub enum Report {
     Accepted(Reported),
     Short(u8, u64, Reported),
@@ -32,7 +32,7 @@ pub enum Report {
 }
 
 // What a run of words came to: refused, or the progress and how many of the words whole commands took.
-#[derive(Drop)]
+#[derive(Clone, Copy)]
 pub enum Walked {
     Stopped(u8, u64),
     Going(Progress, usize),

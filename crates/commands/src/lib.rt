@@ -4,7 +4,7 @@
 use headers::Header;
 
 // A word that names no command; a command of which words are to come; or a whole one, with its header and its count of words.
-#[derive(Drop)]
+#[derive(Clone, Copy)]
 pub enum NextCommand {
     Unknown,
     Incomplete,

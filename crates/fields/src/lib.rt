@@ -2,7 +2,7 @@
 #![tactic(auto)]
 
 // The two halves of a word.
-#[derive(Drop)]
+#[derive(Clone, Copy)]
 pub struct Halves {
     pub low: u16,
     pub high: u16,

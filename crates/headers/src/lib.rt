@@ -5,7 +5,7 @@
 pub const MACROBLOCK_HEADER: u32 = 0x7349_0007;
 
 // The commands that have rules of their own.
-#[derive(Drop)]
+#[derive(Clone, Copy)]
 pub enum Opcode {
     Noop,
     End,
@@ -17,7 +17,7 @@ pub enum Opcode {
 
 // What a word begins: a known command or a carried one (document 01's term for those that only have a length), each with its
 // count of words, or no command.
-#[derive(Drop)]
+#[derive(Clone, Copy)]
 pub enum Header {
     Known(Opcode, usize),
     Carried(usize),

@@ -6,7 +6,7 @@ use batch::Lengths;
 // The answer to a batch: document 01's number and place, the four lengths that it reports and, of the same four buffers, the first
 // touched bytes (hromulice_report in C).
 #[repr(C)]
-#[derive(Drop)]
+#[derive(Clone, Copy)]
 pub struct Summary {
     pub number: u8,
     pub place: u64,
@@ -16,7 +16,7 @@ pub struct Summary {
 
 // The answer to one command or one record: document 01's number and place (hromulice_answer in C).
 #[repr(C)]
-#[derive(Drop)]
+#[derive(Clone, Copy)]
 pub struct Outcome {
     pub number: u8,
     pub place: u64,
@@ -25,7 +25,7 @@ pub struct Outcome {
 // The answer to asking for a mount sheet: number and place, and the sheet's edition and side, zeros where it is refused
 // (hromulice_mount in C).
 #[repr(C)]
-#[derive(Drop)]
+#[derive(Clone, Copy)]
 pub struct Mount {
     pub number: u8,
     pub place: u64,
@@ -35,7 +35,7 @@ pub struct Mount {
 
 // The answer to adding a mount sheet: number and place, and how many sheets there are then (hromulice_mounts in C).
 #[repr(C)]
-#[derive(Drop)]
+#[derive(Clone, Copy)]
 pub struct Mounts {
     pub number: u8,
     pub place: u64,
@@ -44,7 +44,7 @@ pub struct Mounts {
 
 // The vector of a measured shift: number and place, and its components, zeros where it is refused (hromulice_shift in C).
 #[repr(C)]
-#[derive(Drop)]
+#[derive(Clone, Copy)]
 pub struct MountShift {
     pub number: u8,
     pub place: u64,

@@ -4,7 +4,7 @@
 use prediction::Vector;
 
 // What an inter macroblock is predicted from, with the vectors that it has and no others.
-#[derive(Drop)]
+#[derive(Clone, Copy)]
 pub enum Prediction {
     Forward(Vector),
     Backward(Vector),
@@ -14,7 +14,7 @@ pub enum Prediction {
 }
 
 // How a macroblock is coded.
-#[derive(Drop)]
+#[derive(Clone, Copy)]
 pub enum Case {
     Intra,
     Inter(Prediction),
@@ -22,7 +22,7 @@ pub enum Case {
 
 // A case as numbers: its kind (0 intra, 1 forward, 2 backward, 3 both, 4 field forward), its vectors' words, 0 where there is
 // none, and a field prediction's choices. The top field's vector is the forward one.
-#[derive(Drop)]
+#[derive(Clone, Copy)]
 pub struct Motion {
     pub kind: u8,
     pub forward: u32,
@@ -33,7 +33,7 @@ pub struct Motion {
 }
 
 // The flags of a macroblock, in the order of the log record's bits.
-#[derive(Drop)]
+#[derive(Clone, Copy)]
 pub struct Flags {
     pub first_in_slice: bool,
     pub last_in_slice: bool,
@@ -45,7 +45,7 @@ pub struct Flags {
 
 // A macroblock. Its command and its log record are two ways to write it down. The upper half of word 1 has no rule and is
 // kept as it is (document 01's carried half). Its dct type is field where `dct_type` is set, else frame.
-#[derive(Drop)]
+#[derive(Clone, Copy)]
 pub struct Macroblock {
     pub column: u16,
     pub row: u16,
@@ -61,7 +61,7 @@ pub struct Macroblock {
 }
 
 // Which of the rules of a macroblock hold that need no picture and not the form of its command.
-#[derive(Drop)]
+#[derive(Clone, Copy)]
 pub struct Kept {
     pub intra_not_skipped: bool,
     pub intra_pattern: bool,
@@ -72,7 +72,7 @@ pub struct Kept {
 }
 
 // What a picture allows its macroblocks: a field dct type, and field prediction (type 04h).
-#[derive(Drop)]
+#[derive(Clone, Copy)]
 pub struct Allowed {
     pub dct_type: bool,
     pub field: bool,

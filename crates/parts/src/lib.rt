@@ -6,7 +6,7 @@ use progress::Progress;
 
 // A check under way. The command in progress begins at word `at`; the first `held` words of the buffer have come of it. A check
 // that is stopped keeps its number and place. Any value is taken: words that cannot be held so count as none.
-#[derive(Drop)]
+#[derive(Clone, Copy)]
 pub struct State {
     pub progress: Progress,
     pub at: u32,

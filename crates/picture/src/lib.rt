@@ -4,7 +4,7 @@
 use prediction::{Grid, Surface};
 
 // What SURFACE says: the picture's size in samples, and the layout of its buffers.
-#[derive(Drop)]
+#[derive(Clone, Copy)]
 pub struct Frame {
     pub width: u16,
     pub height: u16,
@@ -12,7 +12,7 @@ pub struct Frame {
 }
 
 // The f codes of one reference's vectors, for each component.
-#[derive(Drop)]
+#[derive(Clone, Copy)]
 pub struct Codes {
     pub x: u8,
     pub y: u8,
@@ -20,7 +20,7 @@ pub struct Codes {
 
 // What PICTURE says: its coding type (1 I, 2 P, 3 B), the f codes of both references, its size in macroblocks, and whether every
 // macroblock is predicted and transformed as a frame (bit 10 of word 1, under MPEG-2's name).
-#[derive(Drop)]
+#[derive(Clone, Copy)]
 pub struct Picture {
     pub coding: u8,
     pub forward: Codes,

@@ -4,14 +4,14 @@
 use prediction::{Extent, Structure, Vector};
 
 // A reference picture as one macroblock uses it: not at all, or at a vector, in rows of a structure.
-#[derive(Drop)]
+#[derive(Clone, Copy)]
 pub enum Reference {
     Unused,
     At(Structure, Vector),
 }
 
 // Whether a predicted block keeps its rules, and what it touches of its reference.
-#[derive(Drop)]
+#[derive(Clone, Copy)]
 pub struct Predicted {
     pub in_range: bool,
     pub inside: bool,
@@ -20,7 +20,7 @@ pub struct Predicted {
 
 // What a macroblock touches: its own samples, and its predicted blocks. A field prediction has two in the forward reference: the top field's
 // is `forward`, the bottom field's `bottom`.
-#[derive(Drop)]
+#[derive(Clone, Copy)]
 pub struct Blocks {
     pub own: Extent,
     pub forward: Predicted,

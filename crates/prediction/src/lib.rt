@@ -3,7 +3,7 @@
 #![tactic(auto)]
 
 // What a block's rows are rows of: the frame, or one of its two fields, each every second row of the frame (MPEG-2's picture structure).
-#[derive(Drop)]
+#[derive(Clone, Copy)]
 pub enum Structure {
     Frame,
     TopField,
@@ -11,28 +11,28 @@ pub enum Structure {
 }
 
 // A motion vector in half samples, x to the right and y down.
-#[derive(Drop)]
+#[derive(Clone, Copy)]
 pub struct Vector {
     pub x: i16,
     pub y: i16,
 }
 
 // A picture buffer's layout: bytes from row to row, and the row at which chroma starts (document 01's C).
-#[derive(Drop)]
+#[derive(Clone, Copy)]
 pub struct Surface {
     pub pitch: u32,
     pub chroma_row: u16,
 }
 
 // The picture's size in macroblocks (document 01's W and H).
-#[derive(Drop)]
+#[derive(Clone, Copy)]
 pub struct Grid {
     pub columns: u16,
     pub rows: u16,
 }
 
 // A macroblock's place in the picture (document 01's X and Y).
-#[derive(Drop)]
+#[derive(Clone, Copy)]
 pub struct Position {
     pub column: u16,
     pub row: u16,
@@ -40,14 +40,14 @@ pub struct Position {
 
 // What is touched of one picture buffer: first is its lowest touched byte and end one more than its highest, both 0 where none is
 // touched. Whether any is, the end tells.
-#[derive(Drop)]
+#[derive(Clone, Copy)]
 pub struct Extent {
     pub first: u64,
     pub end: u64,
 }
 
 // A block that a vector points at: outside the picture, or inside and what it touches.
-#[derive(Drop)]
+#[derive(Clone, Copy)]
 pub enum Block {
     Outside,
     Inside(Extent),
@@ -55,7 +55,7 @@ pub enum Block {
 
 // What vectors may be in one line of blocks, a row or a column of macroblocks: a component plus 32768 from low to low + span,
 // and last the last block's place.
-#[derive(Drop)]
+#[derive(Clone, Copy)]
 pub struct Line {
     pub low: u16,
     pub span: u16,

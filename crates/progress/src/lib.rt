@@ -6,7 +6,7 @@ use prediction::{Extent, Position};
 
 // Which commands have come. A group is open from its SLICEGROUP to LastMbInSG, a slice from its first macroblock to its last;
 // group_start holds from SLICEGROUP to the group's first macroblock.
-#[derive(Drop)]
+#[derive(Clone, Copy)]
 pub struct Stage {
     pub surfaced: bool,
     pub pictured: bool,
@@ -18,7 +18,7 @@ pub struct Stage {
 }
 
 // What a rule reads of the macroblock before: its kind (0 for intra, and before the first) and words 5 to 8.
-#[derive(Drop)]
+#[derive(Clone, Copy)]
 pub struct Previous {
     pub kind: u8,
     pub five: u32,
@@ -28,7 +28,7 @@ pub struct Previous {
 }
 
 // What is touched of the four picture buffers (document 01's 0 source, 1 reconstructed, 2 forward and 3 backward reference).
-#[derive(Drop)]
+#[derive(Clone, Copy)]
 pub struct Extents {
     pub source: Extent,
     pub reconstructed: Extent,
@@ -37,7 +37,7 @@ pub struct Extents {
 }
 
 // How far a batch has come. The position is that of the next macroblock: its row is H when all have come.
-#[derive(Drop)]
+#[derive(Clone, Copy)]
 pub struct Progress {
     pub stage: Stage,
     pub frame: Frame,
@@ -48,7 +48,7 @@ pub struct Progress {
 }
 
 // What a whole command comes to: the progress after it, or the number and the word of the first rule that it breaks.
-#[derive(Drop)]
+#[derive(Clone, Copy)]
 pub enum Verdict {
     Next(Progress),
     Stop(u8, u64),

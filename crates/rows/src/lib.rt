@@ -7,14 +7,14 @@ use prediction::Line;
 use progress::Progress;
 
 // What a row of macroblocks came to: how many of the words were taken, and how far the batch has come with them.
-#[derive(Drop)]
+#[derive(Clone, Copy)]
 pub struct Taken {
     pub progress: Progress,
     pub used: usize,
 }
 
 // The lines of a picture's columns and rows, under the f codes of both references, those of its fields' rows, and what the picture allows.
-#[derive(Drop)]
+#[derive(Clone, Copy)]
 pub struct Lines {
     pub forward_x: Line,
     pub forward_y: Line,
@@ -25,7 +25,7 @@ pub struct Lines {
 }
 
 // What one command came to: taken, with the ends of what is touched of both references after it, or left.
-#[derive(Drop)]
+#[derive(Clone, Copy)]
 pub enum Step {
     Kept(u64, u64),
     Left,
