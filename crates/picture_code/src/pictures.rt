@@ -8,6 +8,7 @@ use picture::{Codes, Frame, Picture};
 use prediction::Grid;
 
 // What a command's words say, legal or not.
+#[tactic(auto, unfolding(picture::specs::Pictures::picture_of))]
 pub fn picture_of(words: &[u32]) -> Picture
     ensures { result ≡ picture_of words.now }
 {

@@ -8,6 +8,7 @@ use picture::Frame;
 use prediction::Surface;
 
 // What a command's words say, legal or not.
+#[tactic(auto, unfolding(picture::specs::Surfaces::surface_of))]
 pub fn surface_of(words: &[u32]) -> Frame
     ensures { result ≡ surface_of words.now }
 {

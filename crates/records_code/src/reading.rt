@@ -17,7 +17,7 @@ pub fn write_record(macroblock: Macroblock, room: &mut [u8]) -> Answer
         return Answer::Refused(14, 24);
     }
     let bytes = layout::record_of(macroblock);
-    bytes::copy(&bytes, room);
+    room[..24].copy_from_slice(&bytes);
     Answer::Accepted
 }
 
