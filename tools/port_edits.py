@@ -23,7 +23,7 @@ BY_HAND = {}
 IDENT = r"[^\s(){}\[\];,.\"|⟦⟧λ∥]+"
 TOKEN = re.compile(r'"(?:\\.|[^"\\])*"|' + IDENT + r"|[^\s]")
 WORD = re.compile(r"[^\W\d]|«")
-KEYWORDS = {"let", "in", "where", "with", "use", "pub", "abbrev", "unfoldable", "unfolding", "record", "data", "subst", "λ"} - {"subst"}
+KEYWORDS = {"let", "in", "where", "with", "use", "pub", "abbrev", "unfoldable", "unfolding", "record", "data", "λ"}
 
 
 def tokens(text):
@@ -46,7 +46,6 @@ def squeezed(line):
 # ---- projections: `(p .field)` was written, `p.field` is --------------------------------------------------------------------------------------
 
 PROJECTION = re.compile(r"(?<=[\w)»'′]) \.(?=[^\W\d]|«)")
-ATOM = re.compile(r"(?:" + IDENT + r")(?:\.(?:" + IDENT + r"))*$")
 
 
 def atom_before(text, end):
@@ -114,10 +113,6 @@ class Names:
         operator = re.fullmatch(r"_(\S+)_", name)
         return f"◌{operator[1]}◌" if operator else name
 
-    def unsure(self, file, name):
-        votes = self.in_file[file].get(name) or self.everywhere.get(name) or {}
-        return len(votes) > 1
-
     def respelled(self, file, text):
         return TOKEN.sub(lambda m: self.of(file, m.group(0)) if is_name(m.group(0)) else m.group(0), text)
 
@@ -128,18 +123,16 @@ class Pair:
     def __init__(self, landed, ported):
         self.was, self.now = (p.read_text(encoding="utf-8").split("\n") for p in (landed, ported))
         keys = [bare(x) for x in self.was], [bare(x) for x in self.now]
-        self.at = {}
-        self.blocks = {}
+        self.at = {}  # of a line of LANDED, by its number, the line of PORTED that it became
         for kind, a, b, c, d in difflib.SequenceMatcher(None, *keys, autojunk=False).get_opcodes():
             if kind == "equal" or (kind == "replace" and b - a == d - c):
                 self.at.update(zip(range(a, b), range(c, d)))
             elif kind == "replace":
-                self.blocks.update((i, (a, b, c, d)) for i in range(a, b))
-                # the same number of names: a line that is only respelled
+                # lines of as many names, in order, are the same line respelled
                 taken = c
                 for i in range(a, b):
                     for j in range(taken, d):
-                        x, y = ([t for t in tokens(z[i2]) if is_name(t)] for z, i2 in ((self.was, i), (self.now, j)))
+                        x, y = ([t for t in tokens(line) if is_name(t)] for line in (self.was[i], self.now[j]))
                         if x and len(x) == len(y) and difflib.SequenceMatcher(None, keys[0][i], keys[1][j]).ratio() > 0.7:
                             self.at[i], taken = j, j + 1
                             break
@@ -154,6 +147,8 @@ def imported(line):
 
 
 class Trees:
+    """Both trees: their files side by side, how names are spelled, and which import of PORTED gives a name."""
+
     def __init__(self, landed, ported):
         self.landed, self.ported, self.names, self.pairs = landed, ported, Names(), {}
         self.giver = collections.defaultdict(collections.Counter)
@@ -171,6 +166,11 @@ class Trees:
                 for name in given:
                     self.giver[name][module] += 1
 
+    def spelled(self, file, text):
+        """A text of a file of LANDED in today's spelling."""
+        text = self.names.respelled(file, text)
+        return tightened(text) if file.endswith(".antt") else text
+
 
 # ---- edits ------------------------------------------------------------------------------------------------------------------------------------
 
@@ -179,19 +179,17 @@ class Left(Exception):
     """A pair that the rule cannot give."""
 
 
+def cuts(line):
+    """The places in a line where a token begins or ends."""
+    return {0, len(line)} | {at for m in TOKEN.finditer(line) for at in m.span()}
+
+
 def edges(a, b):
     """How many characters two texts share at the front and at the back, cut at tokens."""
-    front = 0
-    ends = lambda t: [0] + [m.end() for m in TOKEN.finditer(t)] + [len(t)]
-    cuts_a, cuts_b = set(ends(a)) | {m.start() for m in TOKEN.finditer(a)}, set(ends(b)) | {m.start() for m in TOKEN.finditer(b)}
-    for k in sorted(cuts_a & cuts_b):
-        if a[:k] == b[:k]:
-            front = k
-    back = 0
-    for k in sorted({len(a) - x for x in cuts_a} & {len(b) - x for x in cuts_b}):
-        if k <= min(len(a), len(b)) - front and a[len(a) - k :] == b[len(b) - k :]:
-            back = k
-    return front, back
+    of_a, of_b = cuts(a), cuts(b)
+    front = max(k for k in of_a & of_b if a[:k] == b[:k])
+    room = min(len(a), len(b)) - front
+    return front, max(k for k in {len(a) - x for x in of_a} & {len(b) - x for x in of_b} if k <= room and a[len(a) - k :] == b[len(b) - k :])
 
 
 class Port:
@@ -209,10 +207,6 @@ class Port:
             self.was[file], self.now[file] = list(pair.was), list(pair.now)
         return file
 
-    def spelled(self, file, line):
-        line = self.trees.names.respelled(file, line)
-        return tightened(line) if file.endswith(".antt") else line
-
     def apply(self, path, old, new):
         """The pairs of today for one pair, with what is to be said of them."""
         file = self.file(path)
@@ -226,13 +220,13 @@ class Port:
         if IMPORT.match(before):
             return self.imports(file, before, after)
         here = self.trees.pairs[file].at.get(row)
-        given = self.spelled(file, before)
+        given = self.trees.spelled(file, before)
         if here is None or squeezed(now[here]) != squeezed(given):
             same = [j for j, line in enumerate(now) if squeezed(line) == squeezed(given)]
             if len(same) != 1:
                 return self.alone(path, file, old, new, f"the rule gives `{squeezed(given)}`, and there is `{squeezed(now[here]) if here is not None else '(no line)'}`")
             here = same[0]
-        line, wrong = now[here], self.spelled(file, after).strip()
+        line, wrong = now[here], self.trees.spelled(file, after).strip()
         indent = line[: len(line) - len(line.lstrip())]
         if given.strip() != line.strip():
             wrong = squeezed(wrong)
@@ -249,7 +243,7 @@ class Port:
 
     def alone(self, path, file, old, new, why):
         """The texts by themselves, where the lines are laid out anew and the old text, in today's spelling, still stands once."""
-        old, new = self.spelled(file, old), self.spelled(file, new)
+        old, new = self.trees.spelled(file, old), self.trees.spelled(file, new)
         text = "\n".join(self.now[file])
         if text.count(old) != 1:
             raise Left(why)
@@ -267,7 +261,7 @@ class Port:
         if count == 0 or first + count > len(spans):
             return len(line), 0
         start, end = spans[first][0], spans[first + count - 1][1]
-        spelled = self.spelled(file, old)
+        spelled = self.trees.spelled(file, old)
         for piece in (spelled, spelled.strip()):
             if line.count(piece) == 1:
                 return line.index(piece), line.index(piece) + len(piece)
@@ -275,8 +269,8 @@ class Port:
 
     @staticmethod
     def cut(now, here, line, wrong, start, end):
-        """The old and the new text: that part of the line, made longer until it stands once in the file and is no half bracket."""
-        marks = sorted({0, len(line)} | {m.start() for m in TOKEN.finditer(line)} | {m.end() for m in TOKEN.finditer(line)})
+        """The old and the new text: that part of the line, made longer until it stands once in the file."""
+        marks = sorted(cuts(line))
         text = "\n".join(now)
         from_end = len(line) - len(wrong)
         left, wider = True, False
@@ -299,8 +293,7 @@ class Port:
         path = file.split("/", 2)[2]
         names, now = self.trees.names, self.now[file]
         was, to = imported(before)[1], imported(after)[1]
-        spell = lambda name: names.of(file, name)
-        added, gone = [spell(x) for x in to if x not in was], [spell(x) for x in was if x not in to]
+        added, gone = ([names.of(file, x) for x in some if x not in other] for some, other in ((to, was), (was, to)))
         have = {x for line in now for x in imported(line)[1]}
         rows = {}
         for name in added:
@@ -332,14 +325,19 @@ def blocks(text):
 
 
 class Report:
+    """What became of each pair: 'same' text, 'spelling' alone, another 'cut' of its line, 'by hand', or LEFT as it was."""
+
     def __init__(self):
-        self.lines, self.counts, self.left = [], collections.Counter(), []
+        self.lines, self.counts, self.left, self.marked = [], collections.Counter(), [], []
+
+    def text(self):
+        marked = [f"   {x}" for x in self.marked] or ["   none"]
+        return "\n".join(["Changed by more than spelling (another cut of the line, an import, by hand, left):", *marked, "", *self.lines, ""])
 
 
 def same_shape(file, trees, old, new, made):
     """Whether the pair of today is the old one in today's spelling, and no more or less of its line."""
-    port = Port(trees, "")
-    return len(made) == 1 and [squeezed(x) for x in made[0][1:]] == [squeezed(port.spelled(file, x)) for x in (old, new)]
+    return len(made) == 1 and [squeezed(x) for x in made[0][1:]] == [squeezed(trees.spelled(file, x)) for x in (old, new)]
 
 
 def law_line(trees, crate, line, report, where):
@@ -384,6 +382,8 @@ def ported(trees, crate, name, text, report):
                     made, kind = [(path, old, new)], "LEFT"
                     report.left.append(f"{where}, pair {number}: {why}")
                 report.counts[kind] += 1
+                if kind not in ("same", "spelling"):
+                    report.marked.append(f"[{kind}] {where}, pair {number}: {old} => {new}   ->   {'; '.join(f'{x} => {y}' for _, x, y in made)}")
                 report.lines += [f"   [{kind}] {path}", f"     old: {old}", f"      ->: {' | '.join(x[1] for x in made)}", f"     new: {new}", f"      ->: {' | '.join(x[2] for x in made)}"]
                 for at, x, y in made:
                     if at != written:
@@ -464,7 +464,7 @@ def main(argv):
     for line in report.left:
         print(f"left: {line}")
     if said.report:
-        said.report.write_text("\n".join(report.lines) + "\n", encoding="utf-8")
+        said.report.write_text(report.text(), encoding="utf-8")
     print(f"{count} edits; pairs: {', '.join(f'{n} {kind}' for kind, n in report.counts.most_common())}; {faults} edits do not apply, {len(report.left)} places left")
     return 1 if faults or report.left else 0
 
