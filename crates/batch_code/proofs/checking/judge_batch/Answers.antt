@@ -4,7 +4,6 @@ use mathlib.Core.List.{List, [], foldl}
 use mathlib.Core.Path.{◌≡◌, sym, ap, ◌∙◌}
 use Prim.Native.Nat.{ℕ, ◌+◌}
 use native.Mathlib.Omega.{arith}
-use borrow.Author.Rules.{rules}
 use lib.ListN.{length, drop}
 use Rattle.progress.specs.Progress.{fresh}
 use Rattle.progress.specs.declared.Progress.{Progress}
@@ -14,8 +13,7 @@ use Rattle.batch.specs.Reports.{ending, verdict_of}
 use Rattle.batch.specs.declared.Walked.{Walked}
 use Rattle.batch.specs.declared.Walked.TheVariants.{Stopped, Going}
 use Rattle.batch.proofs.WalkLaws.{counted}
-use Rattle.batch_code.proofs.checking.judge_batch.Statement.{statement}
-use Rattle.batch_code.proofs.checking.judge_batch.Tie as tie
+use Rattle.batch_code.proofs.checking.judge_batch.Goals as goal
 
 -- what the batch comes to, by what the walk from the first word came to
 module _ (ws : List ℕ) (p₀ : Progress) (new : p₀ ≡ fresh) (r : Walked) (came : walk_of 0 ws r ≡ foldl step (going 0 p₀ []) ws) where
@@ -34,47 +32,17 @@ module _ (ws : List ℕ) (p₀ : Progress) (new : p₀ ≡ fresh) (r : Walked) (
       ∙ ap (λ (b : Bool). cond b (Next p) (Stop 1 (0 + used + length (drop used ws)))) (sym t)
       ∙ judged (Going p used) e
 
-fresh-requires : tie.Need-fresh-requires
-fresh-requires c κs = search rules
+pub returns-then-p : goal.returns-then-p
+returns-then-p c = let a = c.args in
+    ended a.words.now c.fresh.result c.fresh.ensures c.walk.result c.walk.ensures _ _
+    c.in-Going.is c.if-p.true
 
-walk-requires : tie.Need-walk-requires
-walk-requires c κs = search rules
+pub returns-in-Stopped : goal.returns-in-Stopped
+returns-in-Stopped c = let a = c.args in
+    judged a.words.now c.fresh.result c.fresh.ensures c.walk.result c.walk.ensures (Stopped _ _)
+    c.in-Stopped.is
 
-enum-known-number : tie.Need-enum-known-number
-enum-known-number c = search rules
-
-enum-known-p : tie.Need-enum-known-p
-enum-known-p c = search rules
-
-returns : tie.Need-returns
-returns c =
-    let w = c.before.before.before.before in
-    let a = w.before.before.before.args in
-    ended a.words.now w.before.fresh.result w.before.fresh.ensures w.walk.result w.walk.ensures _ _
-    c.before.before.p.given.1 c.if1.true
-
-returns-2 : tie.Need-returns-2
-returns-2 c =
-    let w = c.before.before.before in
-    let a = w.before.before.before.args in
-    judged a.words.now w.before.fresh.result w.before.fresh.ensures w.walk.result w.walk.ensures (Stopped _ _)
-    c.before.number.given.1
-
-returns-3 : tie.Need-returns-3
-returns-3 c =
-    let w = c.before.before.before.before in
-    let a = w.before.before.before.args in
-    ran_out a.words.now w.before.fresh.result w.before.fresh.ensures w.walk.result w.walk.ensures _ _
-    c.before.before.p.given.1 c.if1.false
-
-pub judge-batch-spec : {M : Type 1} → statement M
-judge-batch-spec =
-    tie.close
-    (tie.spec
-    fresh-requires
-    walk-requires
-    enum-known-number
-    enum-known-p
-    returns
-    returns-2
-    returns-3)
+pub returns-else-p : goal.returns-else-p
+returns-else-p c = let a = c.args in
+    ran_out a.words.now c.fresh.result c.fresh.ensures c.walk.result c.walk.ensures _ _
+    c.in-Going.is c.if-p.false
