@@ -64,5 +64,5 @@ pub(crate) fn write_sheet(sheet: Sheet, room: &mut [u8])
         boat[0], boat[1], boat[2], boat[3], edition[0], edition[1], edition[2], edition[3], side,
         0, 0, 0, 0, 0, 0, 0,
     ];
-    bytes::copy(&record, room);
+    room[..16].copy_from_slice(&record);
 }
