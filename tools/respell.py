@@ -3,7 +3,7 @@
 
 usage: python3 tools/respell.py [FOLDER]    FOLDER has crates/; without it the repository that this file stands in
 
-Run once, after /opt/rattle/port/port.py. It reads which names crates/*/specs/*.antt and crates/*/proofs/*.antt declare (definitions, laws,
+Run once, after the kit's port.py. It reads which names crates/*/specs/*.antt and crates/*/proofs/*.antt declare (definitions, laws,
 fields, constructors), and writes each in its new spelling wherever the name stands: in those files, in proofs of functions and in clauses and
 comments of src/. Names of Rust's functions, strings, inputs and outputs stay. It prints names that fall together; with --names it only prints
 each old name beside the new one.
@@ -112,7 +112,7 @@ def replaced(text, table, allowed, where):
 
 
 def code_line(line, table):
-    """A line of Rust: names in camel case in clauses and comments; names with dashes in backquotes."""
+    """A line with its names in backquotes in the new spelling."""
     return re.sub(r'`([^`]+)`', lambda m: '`' + TOKEN.sub(lambda t: table.get(t.group(0), t.group(0)), m.group(1)) + '`', line)
 
 
@@ -170,6 +170,7 @@ def main(argv):
                     return t not in libs
                 return t in mine or (field and t in members)
             new = replaced(text, table, allowed, file)
+            new = '\n'.join(code_line(l, table) if l.lstrip().startswith('--') else l for l in new.split('\n'))
         else:
             camel = {x: y for x, y in table.items() if '-' not in x}
             dashed = {x: y for x, y in table.items() if '-' in x}

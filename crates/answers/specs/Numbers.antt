@@ -1,5 +1,5 @@
 -- Which numbers and places are answered: a list of them, and answers that are in it.
--- Proved: against `judged`, by `table-listed` (proofs/NumberLaws.antt).
+-- Proved: against `judged`, by `table_listed` (proofs/NumberLaws.antt).
 use Rattle.std.specs.Prelude.{ℕ, ◌≤◌, Bool, true, false, ◌&&◌, ◌||◌, List, [], ◌∷◌, ◌⊎◌, ◌≡◌, eqb, leb}
 use Rattle.answers.specs.Answers.{Rule}
 use Rattle.answers.specs.declared.Answer.{Answer}

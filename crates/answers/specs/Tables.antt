@@ -1,5 +1,5 @@
 -- What is said of a table of rules.
--- Proved: against `judged`, by `in_order`, `all_hold`, `none-broken`, `judged-by` and `judged-within` (proofs/Judging.antt).
+-- Proved: against `judged`, by `in_order`, `all_hold`, `none_broken`, `judged_by` and `judged_within` (proofs/Judging.antt).
 use Rattle.std.specs.Prelude.{◌≡◌, Bool, true, cond, not, ◌&&◌, List, [], ◌∷◌, ℕ, leb}
 use Rattle.answers.specs.Answers.{Rule, before}
 use Rattle.answers.specs.declared.Answer.{Answer}

@@ -1,5 +1,5 @@
 -- A batch as it was answered before document 02's R-6: the same walk over its words, with each command judged as it was.
--- Proved: of every batch whose PICTURE has bit 10 = 1, against `report`, by `frames-as-before` (proofs/Before.antt).
+-- Proved: of every batch whose PICTURE has bit 10 = 1, against `report`, by `frames_as_before` (proofs/Before.antt).
 use Rattle.std.specs.Prelude.{ℕ, ◌+◌, true, cond, ◌≡◌, eqb, leb, length}
 use mathlib.Core.List.{List, [], ◌∷◌, ◌++◌, foldl}
 use Rattle.fields.specs.Word.{bits}
@@ -16,7 +16,7 @@ use Rattle.batch.specs.declared.Report.{Report}
 use Rattle.batch.specs.Reports.{ending, concluding}
 use Rattle.batch.specs.Walk.{Walk, going, stopped, limit, after, start}
 
--- The walk of specs/Walk.antt over any judge of commands. With `judge` it is `step` itself, by `step-by-judge` (proofs/Before.antt).
+-- The walk of specs/Walk.antt over any judge of commands. With `judge` it is `step` itself, by `step_by_judge` (proofs/Before.antt).
 abbrev pub settled_by : (Header → Progress → List ℕ → Verdict) → Header → ℕ → Progress → List ℕ → Walk
 settled_by by h at p g = by_size h (length g) (stopped 2 at) (going at p g) (after at (at + length g) (by h p g))
 

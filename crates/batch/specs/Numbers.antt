@@ -1,5 +1,5 @@
 -- Which numbers and places the check of a batch can answer with, 14 to 16 not among them. What is quoted is document 01.
--- Proved: of `report`, by `check-numbers` (proofs/Numbers.antt).
+-- Proved: of `report`, by `check_numbers` (proofs/Numbers.antt).
 use Rattle.std.specs.Prelude.{ℕ, ◌≤◌, ◌<◌, ◌≡◌}
 use Rattle.batch.specs.Walk.{limit}
 

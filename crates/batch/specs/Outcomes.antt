@@ -1,5 +1,5 @@
 -- What comes of measuring under lengths: all buffers are long enough, or the lowest that is not is named; and what it depends on.
--- Proved: against `measured`, by `outcome` (proofs/Measuring.antt) and `ends-alone` (proofs/Measuring.antt).
+-- Proved: against `measured`, by `outcome` (proofs/Measuring.antt) and `ends_alone` (proofs/Measuring.antt).
 use Rattle.std.specs.Prelude.{◌≡◌, ◌≤◌, ◌<◌}
 use Rattle.progress.specs.Buffers.{Buffer, buffer_number}
 use Rattle.batch.specs.Reports.{length_in, length_of, measured}

@@ -1,5 +1,5 @@
 -- The commands of a batch: its words cut by their headers alone.
--- To be believed: how words cut into commands. `nextIn` is proved against `commandsOf`, by `cut-next` (proofs/CutLaws.antt).
+-- To be believed: how words cut into commands. `next_in` is proved against `commands_of`, by `cut_next` (proofs/CutLaws.antt).
 use Rattle.std.specs.Prelude.{ℕ, ◌+◌, ◌/◌, ◌%◌, cond, List, [], ◌∷◌, ◌++◌, ◌≡◌, length}
 use Rattle.fields.specs.Word.{flag}
 use Rattle.headers.specs.Headers.{header_of, words_in, by_size, begins}

@@ -1,5 +1,5 @@
 -- Which numbers and places decoding can answer with, 15 and 16 not among them. What is quoted is document 01.
--- Proved: of `decoded`, by `decode-numbers` (proofs/Numbers.antt).
+-- Proved: of `decoded`, by `decode_numbers` (proofs/Numbers.antt).
 use Rattle.std.specs.Prelude.{ℕ, ◌≡◌}
 use Rattle.batch.specs.Numbers.{CheckedBy}
 

@@ -1,6 +1,6 @@
 -- From the log of a batch back to its commands. Demand 2: "either way back gives the same bits"; document 02: "The log has no room for bit 15
 -- and type 04h before R-7: .. demand 2's ways back for these, are owed with R-7".
--- Proved: `decoded-back` (proofs/WaysBack.antt), of every batch that is decoded.
+-- Proved: `decoded_back` (proofs/WaysBack.antt), of every batch that is decoded.
 use Rattle.std.specs.Prelude.{ℕ, zero, suc, ◌≤◌, ◌<◌, true, List, [], ◌∷◌, ◌≡◌, length, get_or, take}
 use Rattle.fields.specs.Parts.{record_at}
 use Rattle.answers.specs.declared.Answer.TheVariants.{Accepted}

@@ -1,5 +1,5 @@
 -- Numbers as little-endian bytes: the lowest byte stands first.
--- To be believed: the order of bytes. Reading and writing undo each other, by `bytes_back` and `number-back` (proofs/LittleEndian.antt).
+-- To be believed: the order of bytes. Reading and writing undo each other, by `bytes_back` and `number_back` (proofs/LittleEndian.antt).
 use Rattle.std.specs.Prelude.{ℕ, zero, suc, ◌+◌, ◌*◌, ◌/◌, ◌%◌, ◌<◌, List, [], ◌∷◌, get_or}
 
 -- The k lowest bytes of n.

@@ -1,5 +1,5 @@
 -- What packed fields read, and the pieces that make a word up.
--- Proved: against `packed`, by `packed-field` and `packed-is` (proofs/Packing.antt).
+-- Proved: against `packed`, by `packed_field` and `packed_is` (proofs/Packing.antt).
 use Rattle.std.specs.Prelude.{◌≡◌, Bool, true, cond, ◌&&◌, ◌||◌, List, [], ◌∷◌, ℕ, ◌+◌, ◌%◌, ◌^◌, eqb, leb, ltb}
 use Rattle.fields.specs.Word.{Field, width, bits}
 

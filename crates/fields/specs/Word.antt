@@ -1,5 +1,5 @@
 -- The bits of a 32-bit word, as document 01 writes them: `31:16` are bits 31 down to 16.
--- To be believed: what `hi:lo` of a word is. Writing a field and reading it undo each other, by `packed-back` (proofs/Fields.antt).
+-- To be believed: what `hi:lo` of a word is. Writing a field and reading it undo each other, by `packed_back` (proofs/Fields.antt).
 use Rattle.std.specs.Prelude.{ℕ, ◌+◌, ◌*◌, ◌-◌, ◌/◌, ◌%◌, ◌^◌, min, Bool, true, false, List, [], ◌∷◌, eqb}
 use Rattle.fields.specs.declared.Halves.{Halves}
 

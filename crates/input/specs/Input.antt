@@ -1,5 +1,5 @@
 -- What the state of an input in pieces stands for, and what its functions promise.
--- Proved: against the line of all bytes, by `pieces-line` (proofs/Pieces.antt).
+-- Proved: against the line of all bytes, by `pieces_line` (proofs/Pieces.antt).
 use Rattle.std.specs.Prelude.{ℕ, ◌+◌, ◌-◌, ◌≤◌, cond, ◌≡◌, ltb, length, take, replicate}
 use mathlib.Core.List.{List, [], ◌∷◌, ◌++◌, foldl}
 use Rattle.lists.specs.Calls.{Along}

@@ -1,5 +1,5 @@
 -- Numbers and words as bytes of a text in ASCII.
--- To be believed: the bytes of a text. Decimal digits stand for their number, by `decimal-value` (crates/input_code/proofs/Texts.antt).
+-- To be believed: the bytes of a text. Decimal digits stand for their number, by `decimal_value` (crates/input_code/proofs/Texts.antt).
 use Prim.Native.Char.{code}
 use Rattle.std.specs.Prelude.{ℕ, zero, suc, ◌+◌, ◌*◌, ◌-◌, ◌/◌, ◌%◌, cond, ltb}
 use Prim.Native.String as string

@@ -1,6 +1,6 @@
 -- A check in parts whose state is in lent memory. The papers leave open what the words of that memory are, so each function promises of
 -- the memory what `parts` promises of the states that it stands for, before and after. No content is required.
--- Proved: against the report of the whole batch, by `memory-whole` (proofs/InParts.antt).
+-- Proved: against the report of the whole batch, by `memory_whole` (proofs/InParts.antt).
 use Rattle.std.specs.Prelude.{ℕ, true, List, ◌≡◌}
 use Rattle.lists.specs.Calls.{Along}
 use Rattle.batch.specs.Reports.{finish}

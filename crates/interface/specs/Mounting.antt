@@ -1,5 +1,5 @@
 -- Mount sheets, as structs of numbers: document 02's numbers and places (R-9), and what the exported functions promise.
--- To be believed: the structs' fields. `found-fields`, `added-fields` and `turned-fields` (proofs/MountLaws.antt) read them in their order.
+-- To be believed: the structs' fields. `found_fields`, `added_fields` and `turned_fields` (proofs/MountLaws.antt) read them in their order.
 use Rattle.std.specs.Prelude.{ℕ, ℤ, pos, List, ◌≡◌}
 use Rattle.answers.specs.Answers as answer
 use Rattle.mounts.specs.Claims.{Book, Call, lent_with}

@@ -1,5 +1,5 @@
 -- Answers as structs of numbers: document 01's number, place and lengths, and document 02's first bytes (R-8).
--- To be believed: the structs' fields. `summary-read` and `outcome-fields` (proofs/SummaryLaws.antt) read them in their order.
+-- To be believed: the structs' fields. `summary_read` and `outcome_fields_lem` (proofs/SummaryLaws.antt) read them in their order.
 use Rattle.answers.specs.Answers as answer
 use Rattle.answers.specs.declared.Answer.{Answer}
 use Rattle.progress.specs.Buffers.{Buffer, source, reconstructed, forward, backward}

@@ -1,5 +1,5 @@
 -- The version of the library.
--- To be believed: the version. That its number stands for it is `version-back` (proofs/VersionLaws.antt).
+-- To be believed: the version. That its number stands for it is `version_back` (proofs/VersionLaws.antt).
 use Rattle.std.specs.Prelude.{ℕ, ◌+◌, ◌*◌, ◌/◌, ◌%◌, ◌^◌, ◌<◌, Bool, cond, ◌≡◌, eqb, ltb}
 
 -- A major step: an older_than caller has to be changed or compiled again. A minor step: functions were added, and an older_than caller works

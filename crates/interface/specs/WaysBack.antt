@@ -1,6 +1,6 @@
 -- From the log that the exported functions leave back to the batch's commands. Demand 2: "either way back gives the same bits"; document 02: "The
 -- log has no room for bit 15 and type 04h before R-7: .. demand 2's ways back for these, are owed with R-7".
--- Proved: `c-decoded-back` (proofs/WaysBack.antt), of every batch that is decoded.
+-- Proved: `c_decoded_back` (proofs/WaysBack.antt), of every batch that is decoded.
 use Rattle.std.specs.Prelude.{ℕ, ◌≤◌, ◌<◌, true, List, [], ◌≡◌, length, get_or, take}
 use Rattle.records.specs.Records.{recorded_command, uses_neither}
 use Rattle.commands.specs.Commands.{commands_of, macroblocks_in}

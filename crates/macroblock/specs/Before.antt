@@ -1,5 +1,5 @@
 -- Document 01's MACROBLOCK command as it was before document 02's R-6: no type 04h and no dct type. "All else stays for bit 10 = 1."
--- Proved: where neither is allowed, `commandRules` gives the same answers, by `as_before` (proofs/Before.antt).
+-- Proved: where neither is allowed, `command_rules` gives the same answers, by `as_before` (proofs/Before.antt).
 use Rattle.std.specs.Prelude.{ℕ, Bool, false, cond, ◌&&◌, List, [], ◌∷◌, ◌++◌, eqb, leb}
 use Rattle.fields.specs.Word.{bits, is_set, zero_bits}
 use Rattle.answers.specs.Answers.{Rule, rule}

@@ -1,5 +1,5 @@
 -- A macroblock's case, its kind and its vector words.
--- To be believed: kinds, vectors and copies. A case and its numbers undo each other, by `case-back` (proofs/CaseLaws.antt).
+-- To be believed: kinds, vectors and copies. A case and its numbers undo each other, by `case_back` (proofs/CaseLaws.antt).
 use Rattle.std.specs.Prelude.{ℕ, Bool, true, false, cond, List, [], ◌∷◌, eqb}
 use Rattle.prediction.specs.Vectors.{vector_of, word_of}
 use Rattle.macroblock.specs.declared.Prediction.TheVariants.{Forward, Backward, Both, Field}

@@ -1,5 +1,5 @@
 -- The macroblocks that a command can hold.
--- To be believed: what a whole legal command is. `Legal` is proved against it, by `words-kept` and `macroblock-legal` (proofs/CommandLaws.antt).
+-- To be believed: what a whole legal command is. `Legal` is proved against it, by `words_kept` and `macroblock_legal` (proofs/CommandLaws.antt).
 use Rattle.std.specs.Prelude.{ℕ, ◌<◌, ◌^◌, true, not, ◌&&◌, List, [], ◌∷◌, ◌≡◌, length}
 use Rattle.std.specs.Int.{w16}
 use Rattle.std.proofs.Common.{SFits}

@@ -1,5 +1,5 @@
 -- The words of a MACROBLOCK command, read and written.
--- To be believed: what the words of a command say. Writing is proved against reading, by `macroblock-back` and `words_back`
+-- To be believed: what the words of a command say. Writing is proved against reading, by `macroblock_back` and `words_back`
 -- (proofs/CommandLaws.antt).
 use Rattle.std.specs.Prelude.{ℕ, Bool, true, false, cond, List, [], ◌∷◌, eqb}
 use Rattle.fields.specs.Word.{Field, bits, is_set, flag, field, packed}

@@ -1,7 +1,7 @@
 -- The state of a check in parts, in 128 words of memory that the caller lends. The papers leave the content of these words to the
 -- program; what holds of it is what it stands for, a state of `parts`, and every content stands for one. The words of the buffer come
 -- first, then a word for each field of the state, each at its place (Places.antt); those behind them are room for fields to come.
--- Proved: reading gives back what was stored, by `stored-read` (proofs/MemoryLaws.antt).
+-- Proved: reading gives back what was stored, by `stored_read` (proofs/MemoryLaws.antt).
 use Rattle.std.specs.Prelude.{ℕ, ◌-◌, ◌%◌, ◌^◌, ◌<◌, Bool, not, List, [], ◌∷◌, ◌++◌, map, eqb, get_or, set, replicate, length, ◌≡◌}
 use Rattle.fields.specs.Bytes.{elements}
 use Rattle.fields.specs.Word.{flag}

@@ -1,6 +1,6 @@
 -- The words of lent memory: where each field of the state stands, and nothing else says so. The words of the buffer come first, the
 -- fields behind them, each in the word behind the one before; a field to come takes the first word of the room behind the last.
--- Proved: no two places are the same, since reading gives back what was stored, by `stored-read` (proofs/MemoryLaws.antt).
+-- Proved: no two places are the same, since reading gives back what was stored, by `stored_read` (proofs/MemoryLaws.antt).
 use Rattle.std.specs.Prelude.{ℕ, ◌+◌}
 
 -- How many words there are, and how many of them are the buffer's.

@@ -1,6 +1,6 @@
 -- What is claimed of asking and adding. What is quoted is document 02 (R-9).
--- Proved: `bad-place`, `first-bad-given` (proofs/StoredLaws.antt), `editions-rise` (proofs/Rising.antt), `found-newest`, `None-found`, `Found-None`, `ask-numbers`
--- (proofs/Finding.antt), `add-numbers` (proofs/AddLaws.antt), `add-leaves`, `added-found` (proofs/Adding.antt) and `later-adding` (proofs/Later.antt).
+-- Proved: `bad_place`, `first_bad_given` (proofs/StoredLaws.antt), `editions_rise` (proofs/Rising.antt), `found_newest`, `None-found`, `Found-None`, `ask_numbers`
+-- (proofs/Finding.antt), `add_numbers` (proofs/AddLaws.antt), `add_leaves`, `added_found` (proofs/Adding.antt) and `later_adding` (proofs/Later.antt).
 use Rattle.std.specs.Prelude.{ℕ, suc, ◌*◌, ◌^◌, ◌≤◌, ◌<◌, true, false, List, [], ◌∷◌, ◌++◌, ◌⊎◌, ◌≡◌, length, take, drop}
 use Rattle.mounts.specs.Layout.{sheet_length}
 use Rattle.mounts.specs.Mounts.{good_at, asked, added, bytes_after}

@@ -1,6 +1,6 @@
 -- Editions: a boat's newest sheet not above one, and its next. What is quoted is document 02 (R-9).
 -- To be believed: which sheet is the newest not above an edition, and which edition is next. In stored sheets none of which is bad the editions of a
--- boat are 1, 2, 3 and so on, by `editions-rise` (proofs/Rising.antt).
+-- boat are 1, 2, 3 and so on, by `editions_rise` (proofs/Rising.antt).
 use Rattle.std.specs.Prelude.{ℕ, ◌+◌, Bool, cond, List, [], ◌∷◌, eqb, leb}
 use Rattle.mounts.specs.declared.Newest.{Newest}
 use Rattle.mounts.specs.declared.Newest.TheVariants.{At, Nothing}

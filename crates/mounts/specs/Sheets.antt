@@ -1,6 +1,6 @@
 -- The sheets that lent bytes hold, one record behind the other.
--- To be believed: the record of a sheet, and which sheets bytes hold. Reading a record is proved against writing it, by `sheet-back` and
--- `record-again` (proofs/SheetLaws.antt).
+-- To be believed: the record of a sheet, and which sheets bytes hold. Reading a record is proved against writing it, by `sheet_back` and
+-- `record_again` (proofs/SheetLaws.antt).
 use Rattle.std.specs.Prelude.{ℕ, zero, suc, ◌/◌, cond, List, [], ◌∷◌, ◌++◌, ltb, length}
 use Rattle.fields.specs.Parts.{entry, laid, value_at, record_at}
 use Rattle.mounts.specs.Layout.{sheet_length, boat_part, edition_part, side_part}

@@ -1,6 +1,6 @@
 -- PICTURE's rules before document 02's R-6, for the law alone that what they answer where bit 10 is 1 has stayed. What is quoted is
 -- document 01.
--- Proved: against the rules as they are, by `picture-before` (proofs/Before.antt).
+-- Proved: against the rules as they are, by `picture_before` (proofs/Before.antt).
 use Rattle.std.specs.Prelude.{ℕ, Bool, ◌&&◌, List, [], ◌∷◌}
 use Rattle.fields.specs.Word.{has_bits, zero_bits}
 use Rattle.answers.specs.Answers.{Rule, rule}

@@ -1,5 +1,5 @@
 -- The words of a PICTURE command. What is quoted is document 01, and of bit 10 in word 1 document 02 (R-6).
--- To be believed: what PICTURE says, and its rules. Where bit 10 is 1 they answer as document 01's did, by `picture-before` (proofs/Before.antt).
+-- To be believed: what PICTURE says, and its rules. Where bit 10 is 1 they answer as document 01's did, by `picture_before` (proofs/Before.antt).
 use Rattle.std.specs.Prelude.{ℕ, ◌+◌, ◌*◌, ◌-◌, Bool, ◌&&◌, ◌||◌, List, [], ◌∷◌, eqb, leb, ltb}
 use Rattle.fields.specs.Word.{bits, has_bits, zero_bits, is_set}
 use Rattle.prediction.specs.declared.Grid.{Grid}

@@ -1,6 +1,6 @@
 -- A MACROBLOCK's rules in its picture, and what it changes, as they were before document 02's R-6: no type 04h, and no block of a field. "All else
 -- stays for bit 10 = 1." What is quoted besides is document 01.
--- Proved: where PICTURE's bit 10 is 1, against the rules and the changes as they are, by `macroblock-before` (proofs/Before.antt).
+-- Proved: where PICTURE's bit 10 is 1, against the rules and the changes as they are, by `macroblock_before_lem` (proofs/Before.antt).
 use Rattle.std.specs.Prelude.{ℕ, Bool, not, ◌&&◌, ◌||◌, List, [], ◌∷◌, ◌++◌, eqb}
 use Rattle.prediction.specs.Vectors.{still}
 use Rattle.prediction.specs.Extents.{joined}

@@ -1,5 +1,5 @@
--- What a macroblock touches. Prediction is used through what its crate promises: `vectorInRange`, `block_at` and laws about them.
--- To be believed: which vector belongs to which reference. What is touched is proved against samples, by `next-exact` (proofs/TouchLaws.antt).
+-- What a macroblock touches. Prediction is used through what its crate promises: `vector_in_range`, `block_at` and laws about them.
+-- To be believed: which vector belongs to which reference. What is touched is proved against samples, by `next_exact` (proofs/TouchLaws.antt).
 use Rattle.std.specs.Prelude.{ℕ, Bool, true, false, cond}
 use Rattle.answers.specs.declared.Answer.{Answer}
 use Rattle.answers.specs.declared.Answer.TheVariants.{Accepted, Refused}

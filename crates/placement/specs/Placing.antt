@@ -27,7 +27,7 @@ abbrev pub in_sequence : Stage → Grid → Position → Bool
 in_sequence s g at = s.in_group && ltb at.row g.rows
 
 -- "I allows intra only, P intra and 1, B all." Kind 0 is intra; coding is 1 for I, 2 for P, 3 for B. Document 02, R-6: "type 04h is allowed in
--- P"; whether it is allowed at all is asked of the picture (`allowedIn`).
+-- P"; whether it is allowed at all is asked of the picture (`allowed_in`).
 abbrev pub coding_permits : ℕ → ℕ → Bool
 coding_permits coding kind = eqb kind 0 || ((eqb coding 2 && (eqb kind 1 || eqb kind 4)) || eqb coding 3)
 

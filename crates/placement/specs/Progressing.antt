@@ -1,5 +1,5 @@
 -- How far a batch has come after a MACROBLOCK command.
--- To be believed: what opens and closes groups and slices. The position is proved to be k mod W, k div W, by `position-of`
+-- To be believed: what opens and closes groups and slices. The position is proved to be k mod W, k div W, by `position_of`
 -- (proofs/PositionLaws.antt).
 use Rattle.std.specs.Prelude.{ℕ, ◌+◌, ◌*◌, ◌<◌, false, cond, not, List, ltb, ◌⊎◌, ◌≡◌}
 use Rattle.prediction.specs.Extents.{joined}

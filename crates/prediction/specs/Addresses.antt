@@ -1,5 +1,5 @@
 -- Where samples stand in a picture buffer.
--- To be believed: document 02's formula. Every byte is that of one column and row, by `address-once` and `address-every` (proofs/AddressOnce.antt).
+-- To be believed: document 02's formula. Every byte is that of one column and row, by `address_once` and `address_every` (proofs/AddressOnce.antt).
 use Rattle.std.specs.Prelude.{ℕ, ◌+◌, ◌*◌, ◌/◌, ◌%◌}
 use Rattle.prediction.specs.declared.Surface.{Surface}
 

@@ -1,5 +1,5 @@
 -- A macroblock's block in a picture buffer: where it lies and which bytes it touches.
--- To be believed: `Occupies` and `InPicture`. `block_at` is proved against them, by `block-exact` and `inside-exactly` (proofs/BlockLaws.antt).
+-- To be believed: `Occupies` and `InPicture`. `block_at` is proved against them, by `block_exact` and `inside_exactly` (proofs/BlockLaws.antt).
 use Rattle.std.specs.Prelude.{ℕ, ◌+◌, ◌-◌, ◌*◌, ◌≡◌, Bool, cond, ◌&&◌, ℤ, pos, nat_abs, ◌≤ℤ◌, ◌<ℤ◌}
 use Rattle.prediction.specs.declared.Structure.{Structure}
 use Rattle.prediction.specs.declared.Vector.{Vector}

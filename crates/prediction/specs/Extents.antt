@@ -1,5 +1,5 @@
 -- What is touched of one picture buffer.
--- To be believed: `Exact`. The others are proved against it, by `empty-exact` and `join-exact` (proofs/ExtentLaws.antt).
+-- To be believed: `Exact`. The others are proved against it, by `empty_exact` and `join_exact` (proofs/ExtentLaws.antt).
 use Rattle.std.specs.Prelude.{ℕ, ◌+◌, ◌≤◌, ◌<◌, min, max, cond, ◌≡◌, eqb}
 use Rattle.prediction.specs.declared.Extent.{Extent}
 

@@ -1,6 +1,6 @@
 -- Vectors judged by numbers that are made once for a line of blocks, a row or a column of macroblocks alike. They say nothing
 -- new: the laws of proofs/LineLaws.antt give back the range of the f code, the inside test and the block's extent.
--- Proved: against the range, the inside test and the block, by `lines-exact`, `in_lines` and `above_floor` (proofs/LineLaws.antt).
+-- Proved: against the range, the inside test and the block, by `lines_exact`, `in_lines` and `above_floor` (proofs/LineLaws.antt).
 use Rattle.std.specs.Prelude.{ℕ, ◌+◌, ◌-◌, ◌*◌, ◌/◌, ◌^◌, min, Bool, cond, ◌&&◌, ℤ, pos, ◌+ℤ◌, leb}
 use Rattle.std.proofs.Math.IntN.{sub_ℕ}
 use Rattle.std.specs.Int.Signed.{le_z}

@@ -1,5 +1,5 @@
 -- Motion vectors in their words. Document 01: "x in the low half, y in the high half, two's complement, half samples."
--- To be believed: the halves of a word and their sign. A vector and its word undo each other, by `vector-back` (proofs/TwosComplement.antt).
+-- To be believed: the halves of a word and their sign. A vector and its word undo each other, by `vector_back` (proofs/TwosComplement.antt).
 use Rattle.std.specs.Prelude.{ℕ, ◌-◌, cond, ltb, ℤ, pos, negsuc, ◌-ℤ◌}
 use Rattle.fields.specs.Word.{halves_of, word_of_halves}
 use Rattle.prediction.specs.declared.Vector.{Vector}

@@ -1,5 +1,5 @@
 -- Which numbers and places reading one command alone and writing one record alone can answer with. What is quoted is document 01.
--- Proved: of `readAnswer` and `writeAnswer`, by `read-numbers` and `write-numbers` (proofs/Numbers.antt).
+-- Proved: of `read_answer` and `write_answer`, by `read_numbers` and `write_numbers` (proofs/Numbers.antt).
 use Rattle.std.specs.Prelude.{ℕ, cond, List, [], ◌∷◌, map, eqb, length}
 use Rattle.records.specs.Layout.{record_length}
 

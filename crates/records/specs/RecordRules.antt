@@ -1,5 +1,5 @@
 -- The rules of a log record: which byte is bad, and the first of them.
--- Proved: no rule is broken exactly by a legal record, by `legal-exactly` (proofs/RoundTrips.antt). To be believed: which byte is the first bad
+-- Proved: no rule is broken exactly by a legal record, by `legal_exactly` (proofs/RoundTrips.antt). To be believed: which byte is the first bad
 -- one.
 use Rattle.std.specs.Prelude.{ℕ, zero, suc, Bool, false, cond, ◌&&◌, ◌||◌, List, [], ◌∷◌, ◌++◌, eqb, leb, get_or}
 use Rattle.answers.specs.Answers.{Rule, rule}

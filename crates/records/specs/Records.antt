@@ -1,5 +1,5 @@
 -- A macroblock's log record, written and read. What is quoted is document 01, of bit 15 and type 04h document 02's R-6.
--- To be believed: the record of a macroblock. Reading it is proved against it, by `record-back` (proofs/RecordLaws.antt).
+-- To be believed: the record of a macroblock. Reading it is proved against it, by `record_back` (proofs/RecordLaws.antt).
 use Rattle.std.specs.Prelude.{ℕ, Bool, false, cond, not, ◌&&◌, List, [], ◌∷◌, eqb, leb}
 use Rattle.fields.specs.Word.{Field, bits, is_set, flag, field, packed, zero_bits}
 use Rattle.fields.specs.Parts.{Entry, entry, laid, value_at}
@@ -68,7 +68,7 @@ abbrev pub recorded_command : List ℕ → List ℕ
 recorded_command ws = words_of (recordable (macroblock_of ws))
 
 -- Whether a command uses neither: bit 15 of word 1 is zero, and the type in 12:8 is not 04h. Its record then holds all that it says, by
--- `recordable-exactly` and `words-exactly` (proofs/RoundTrips.antt).
+-- `recordable_exactly` and `words_exactly` (proofs/RoundTrips.antt).
 abbrev pub uses_neither : List ℕ → Bool
 uses_neither ws = zero_bits (word_at ws 1) 15 15 && not (eqb (bits (word_at ws 1) 12 8) 4)
 

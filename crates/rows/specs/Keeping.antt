@@ -1,5 +1,5 @@
 -- What a command that the tests let pass comes to: each of its rules holds, and what it touches is joined.
--- Proved: against the rules and the progress after them, by `accepted` (proofs/Keeping.antt) and `found-comes` (proofs/Taking.antt).
+-- Proved: against the rules and the progress after them, by `accepted` (proofs/Keeping.antt) and `found_comes` (proofs/Taking.antt).
 use Rattle.std.specs.Prelude.{true, not, ◌&&◌, ◌||◌, List, ◌≡◌, ℕ, ◌-◌, ◌<◌, length}
 use Rattle.headers.specs.Words.{word_at}
 use Rattle.macroblock.specs.Cases.{motion_of}

@@ -1,5 +1,5 @@
 -- Runs of MACROBLOCK commands.
--- Proved: against the walk, by `turn-row` (crates/batch_code/proofs/RowTurn.antt).
+-- Proved: against the walk, by `turn_row` (crates/batch_code/proofs/RowTurn.antt).
 use Rattle.std.specs.Prelude.{ℕ, ◌-◌, ◌/◌, ◌≤◌, ◌<◌, true, ◌≡◌, length, take, drop}
 use mathlib.Core.List.{List, [], ◌∷◌, flatten}
 use Rattle.answers.specs.Answers.{judged}

@@ -1,5 +1,5 @@
 -- What the tests of one MACROBLOCK command find, before its rules are asked; its rules follow from it (proofs/Keeping.antt, proofs/Taking.antt).
--- Proved: against the rules, by `found-comes` (proofs/Taking.antt).
+-- Proved: against the rules, by `found_comes` (proofs/Taking.antt).
 use Rattle.std.specs.Prelude.{ℕ, ◌+◌, ◌*◌, max, Bool, true, ◌||◌, List, ◌⊎◌, ◌≡◌, eqb}
 use Rattle.fields.specs.Word.{bits, is_set, with_bits}
 use Rattle.prediction.specs.Lines.{line_in, vector_in_lines, reach_of}

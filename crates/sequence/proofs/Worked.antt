@@ -63,7 +63,7 @@ every_unknown : Shown Unknown unknowns
 unfolding rules_of unknowns fresh
 every_unknown = (refl, refl)
 
--- A MACROBLOCK is judged by its picture's rules (`macroblock-table` of JudgingLaws.antt), whose examples are `placement`'s.
+-- A MACROBLOCK is judged by its picture's rules (`macroblock_table` of JudgingLaws.antt), whose examples are `placement`'s.
 every_macroblock : Worked (Known Macroblock 9) macroblocks
 unfolding rules_of macroblocks macroblock_rules placed_rules blocks_of predicted forward_of backward_of bottom_of allowed_in fresh
     command_rules field_rules vector_rules kept_by macroblock_of case_of motion_of vector_words

@@ -1,5 +1,5 @@
 -- What a whole command came to before document 02's R-6: PICTURE and MACROBLOCK had document 01's rules, the other commands have theirs still.
--- Proved: where PICTURE's bit 10 is 1, against `judge`, by `judge-before` (proofs/Before.antt).
+-- Proved: where PICTURE's bit 10 is 1, against `judge`, by `judge_before_lem` (proofs/Before.antt).
 use Rattle.std.specs.Prelude.{ℕ, List, [], ◌∷◌, ◌++◌}
 use Rattle.answers.specs.Answers.{Rule, rule, judged}
 use Rattle.headers.specs.declared.Header.{Header}

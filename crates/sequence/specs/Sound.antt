@@ -1,5 +1,5 @@
 -- What holds of every progress that commands lead to.
--- Proved: of every progress that accepted commands lead to, by `fresh-sound` and `sound-next` (proofs/SequenceLaws.antt).
+-- Proved: of every progress that accepted commands lead to, by `fresh_sound` and `sound_next` (proofs/SequenceLaws.antt).
 use Rattle.std.specs.Prelude.{true, false, ◌≡◌, ℕ, ◌≤◌, ◌<◌}
 use Rattle.progress.specs.declared.Progress.{Progress}
 use Rattle.placement.specs.Progressing.{count_before, Reached}
