@@ -1,7 +1,7 @@
 /* Hromulice: checks a batch of MPEG-2 commands before the video engine reads it, and reads and adds mount sheets, which say on which side
  * of a boat the unit is mounted.
  *
- * Link libhromulice.a (x86-64 Linux; `rt staticlib hromulice` builds it). It needs nothing but memcpy and memset, keeps no state of its
+ * Link libhromulice.a (x86-64 Linux; `tests/build library` builds it). It needs nothing but memcpy and memset, keeps no state of its
  * own, allocates nothing, does no input or output, and may be called from any number of threads. Each function is proved: it returns for
  * all arguments that keep the rules on pointers below, whatever the words, bytes, counts and lengths are, and it answers what is said
  * here. That there is stack enough is not proved.

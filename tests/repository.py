@@ -1,14 +1,18 @@
 #!/usr/bin/env python3
-"""Checks what rt ci does not: run after it, on what it left in target/. tests/repo/ has the checks, a file for each subject, and
-tests/repository_test.py tries each on a small tree.
+"""Checks what rt ci does not, and what rt ci says of the must-fail edits:
+
+    python3 tests/repository.py LOG
+
+LOG is what rt ci printed. tests/repo/ has the checks, a file for each subject, and tests/repository_test.py tries each on a small tree.
 
 - A crate with definitions declares no function, and a crate with functions no definition: two storeys.
 - Every public function of a library has an ensures and no requires, and two wrong answers name it: one of its code, and one of a definition
-  below (guards: crate::function).
+  below (guards: crate::function). What a library for C exports is a function below it, called with the same arguments, name and contract.
 - Every wrong answer says what it guards and why, and changes what is computed and no contract or signature; what it guards stands above the wrong
-  definition or calls the wrong program. A must-fail edit tries one, or several (name: ..), each in another function; each was refused as it stands
-  now and at a fact, not because the proof no longer fits the code: a wrong definition by the law that it names, a wrong program in the proof of
-  the very function that it changes.
+  definition or calls the wrong program. A must-fail edit tries one, or several (name: ..), each in another function; rt ci refused each edit as it
+  stands now, and first at a fact, not because the proof no longer fits the code: a wrong definition in a proof, a wrong program in the proof of a
+  function that it changes. tests/refusals, which tries them again, asks for more: the law that a wrong definition names is among what was refused,
+  and each wrong program was refused in the proof of the very function that it changes.
 - Every name that docs/CLAIMS.md cites is declared in the file that it cites, and every edit that it cites is there.
 - What a cited law states is declared in specs/, worked examples apart, and each file of specs/ says whether it has to be believed or which law
   proves it. No two of them declare the same public name.
@@ -25,12 +29,12 @@ sys.dont_write_bytecode = True
 from repo import claims, contracts, documents, laws, refusals
 
 
-def main(root):
+def main(root, log):
     faults = []
     contracts.check_storeys(root, faults)
     counts = {
         'public functions': contracts.check_contracts(root, faults),
-        'refused wrong answers': refusals.check_refusals(root, faults),
+        'refused wrong answers': refusals.check_refusals(root, faults, log),
         'citations': claims.check_claims(root, faults),
         'statements of cited laws': claims.check_statements(root, faults),
         'files of definitions': claims.check_specs(root, faults),
@@ -57,4 +61,6 @@ def report(counts, faults):
 
 
 if __name__ == '__main__':
-    sys.exit(main(pathlib.Path(__file__).resolve().parent.parent))
+    if len(sys.argv) != 2:
+        sys.exit('usage: python3 tests/repository.py LOG, which is what rt ci printed')
+    sys.exit(main(pathlib.Path(__file__).resolve().parent.parent, pathlib.Path(sys.argv[1]).read_text(errors='surrogateescape')))

@@ -3,6 +3,7 @@
 import contextlib
 import io
 import pathlib
+import re
 import subprocess
 import sys
 import tempfile
@@ -10,7 +11,7 @@ import unittest
 
 sys.dont_write_bytecode = True
 import repository
-from repo import antt, claims, contracts, documents, laws, refusals, text
+from repo import antt, claims, contracts, documents, edits, laws, rattle, refusals, text
 
 BASE = {
     'crates.txt': '# crates\none:\none_code: one\n',
@@ -18,7 +19,7 @@ BASE = {
     'crates/one/specs/Lib.antt': 'pub mod Twice\n',
     'crates/one/specs/Twice.antt': '''-- Twice a number.
 -- Proved: against a sum, by `twice-sum` (proofs/Laws.antt).
-use Prim.Native.Nat.{ℕ, _+_}
+use Rattle.std.specs.Prelude.{ℕ, ◌+◌}
 
 -- two of it
 unfoldable pub twice : ℕ → ℕ
@@ -29,7 +30,7 @@ pub record Pair (n : ℕ) : Type 0 where
   pub same : other ≡ n
 ''',
     'crates/one/proofs/Laws.antt': '''-- What twice a number is.
-use Rattle·one·specs.specs.Twice.{twice}
+use Rattle.one.specs.Twice.{twice}
 
 abbrev thrice : ℕ → ℕ
 thrice n = n + twice n
@@ -54,14 +55,14 @@ old: twice n = n + n
 new: twice n = n + n + n
 ''',
     'crates/one_code/src/lib.rt': '''// Twice, by a sum.
-ghost use Rattle·one.specs.Twice.{twice};
+ghost use Rattle.one.specs.Twice.{twice};
 
 pub const MOST: u32 = 7;
 
 // two of it
 #[inline]
 pub fn twice(n: u8) -> u32
-    ensures { λ r. ⌜ r ≡ twice n ⌝ }
+    ensures { result ≡ twice n }
 {
     // it requires nothing
     let m = wide(n);
@@ -69,10 +70,11 @@ pub fn twice(n: u8) -> u32
 }
 
 fn wide(n: u8) -> u32
-    requires { ⌜ n < 256 ⌝ }
-    ensures {
-        λ r. ⌜ r ≡ n ⌝
+    requires { n < 256 }
+    ensures exact {
+        result ≡ n
     }
+    ensures again { result + 0 ≡ n }
 {
     n as u32
 }
@@ -94,15 +96,24 @@ new:     m + 0
 ''',
     'README.md': 'A text.\n',
 }
-LAW_LOG = '''ROOT/proofs/Laws.antt:8:1: error: `twice-sum`: expected type `twice n ≡ n + n`
+# What a check says of a crate with a wrong answer in it.
+LAW_LOG = '''./proofs/Laws.antt:8:1: error: `twice-sum`: expected type `twice n ≡ n + n`
   but this has type `n ≡ n`
 logic=not-proved
 '''
-CODE_LOG = '''ROOT/proofs/twice/Proof.antt:8:1: error: `returns`: `omega`: the goal does not follow from what it read. It fails at `a long name`
+CODE_LOG = '''./proofs/twice/Answers.antt:8:1: error: `returns`: `omega`: the goal does not follow from what it read. It fails at `a long name`
   = 1, and 0 for every other atom
-fn one_code::twice: not proved
+fn one_code::twice: no proof: expected answers in ./proofs/twice/Answers.antt
 fn one_code::wide: proved
 logic=not-proved
+'''
+# What rt ci says of the two edits.
+CI_LOG = '''rt: one is kept: an earlier run on this machine proved the same files over the same libraries
+rt: one_code proved
+rt: must-fail one/three.edit: refused, as it must be: ./proofs/Laws.antt:8:1: error: `twice-sum`: expected type `twice n ≡ n + n`, but this ha
+rt: must-fail one_code/wrong_1.edit: refused, as it must be: note: src/lib.rt:8:1: it is not proved that what the function ensures holds when it returns (`returns`)
+rt: ok; handles allowed: none; must-fail edits: 2 refused; every proof and must-fail edit was done in this run
+4 passed, 0 failed
 '''
 
 
@@ -150,49 +161,101 @@ class Texts(unittest.TestCase):
         self.assertFalse(text.same_code('f = 1', 'f = 2', '.antt'))
 
 
+class Said(Tree):
+    """By rt ci's output, which has one line of each edit."""
+
+    def check(self, log):
+        return lambda root, faults: refusals.check_refusals(root, faults, log)
+
+    def of(self, file, said):
+        """rt ci's output with something else said of an edit."""
+        return re.sub(rf'(?m)^(rt: must-fail \w+/{file}\.edit: ).*', lambda m: m[1] + said, CI_LOG)
+
+    def test_passes(self):
+        self.passes(self.check(CI_LOG), 2)
+        self.passes(self.check(CI_LOG.replace('every proof', 'done in this run: 0 of the 2 proofs; the others')), 2)
+        for place in ('./proofs/twice/Proof.antt:3:1: error: `returns`', 'proofs/twice/Answers.antt:3:1: error: `x`', 'src/lib.rt:13:5: error: `x`'):
+            self.passes(self.check(self.of('wrong_1', f'refused, as it must be: {place}: found no proof')), 2)
+
+    def test_nothing_is_said(self):
+        self.refuses(self.check(CI_LOG.replace('rt: must-fail one/three', 'rt: one/three')), 'three: rt ci says nothing of it')
+
+    def test_not_refused(self):
+        for said in ('BAD EDIT: an \'old:\' text is in src/lib.rt 0 times, and not once', 'NOT REFUSED: the crate is still proved with this edit',
+                     'NOT TRIED: its check was killed', 'refused, as it must be (only by a limit of the prover): ./proofs/Laws.antt:8:1: error: antt ran out of stack',
+                     'refused, as it must be (only because a proof file names what the edit took away): ./proofs/Laws.antt:1:1: error: `x` is not in scope'):
+            self.refuses(self.check(self.of('three', said)), 'three: rt ci says of it')
+
+    def test_no_fact(self):
+        for said in ('', ': ./proofs/Laws.antt:3:1: error: `thrice`: record `Pair` has no field `n`', ': ./proofs/Laws.antt:3:1: note: the name is idle',
+                     ': ./proofs/Laws.antt:3:1: error: `it is not proved that` is not in scope', ': ./proofs/Laws.antt:3:1: error: `twice-sum` was not admitted, so `found no proof'):
+            self.refuses(self.check(self.of('three', f'refused, as it must be{said}')), 'three: rt ci names no fact first')
+
+    def test_cut_in_what_is_quoted(self):
+        self.passes(self.check(self.of('three', 'refused, as it must be: ./proofs/Laws.antt:8:1: error: `twice-sum`: expected type `twice n ≡ it is')), 2)
+        self.passes(self.check(self.of('three', 'refused, as it must be: ./proofs/Laws.antt:8:1: error: `twice-sum`: `twice n` ≟ `n + (n +')), 2)
+        self.assertFalse(refusals.is_fact('error: `twice-sum`: `twice n` ≟ `n`'))
+        self.refuses(self.check(self.of('three', 'refused, as it must be: ./proofs/Laws.antt:8:1: error: `twice-sum`: a `, it is not proved that')), 'names no fact')
+
+    def test_elsewhere(self):
+        self.refuses(self.check(self.of('three', 'refused, as it must be: src/lib.rt:8:1: error: found no proof')), 'three: was refused in src/lib.rt, and not by a law')
+        for place in ('src/lib.rt:17:1', 'src/lib.rt:4:1', './proofs/wide/Answers.antt:3:1', './proofs/Laws.antt:3:1'):
+            self.refuses(self.check(self.of('wrong_1', f'refused, as it must be: {place}: error: `x`: found no proof')), 'twice_once: was refused in', 'and not in the proof')
+
+    def test_two_wrong_programs_of_one_function(self):
+        edit = BASE['crates/one_code/must-fail/wrong_1.edit']
+        again = edit.replace('twice_once', 'again').replace('m + wide(n)', 'let m = wide(n);').replace('m + 0', 'let m = 0;')
+        self.write('crates/one_code/must-fail/wrong_1.edit', f'{edit}\n{again}')
+        self.refuses(self.check(CI_LOG), 'again: another wrong program of this edit changes the same function')
+
+    def test_counted_otherwise(self):
+        for counted in ('1 refused', '3 refused', '2 refused, 1 of them only by a limit', '2 refused, 1 bad', '2 refused, 0 bad'):
+            self.refuses(self.check(CI_LOG.replace('2 refused', counted)), 'rt ci counts its edits as')
+        for without in (CI_LOG.replace('rt: ok', 'rt: FAILED'), CI_LOG.replace('; must-fail edits: 2 refused', '')):
+            self.refuses(self.check(without), 'rt ci counts its edits as []')
+
+    def test_an_edit_that_is_not_there(self):
+        self.refuses(self.check(CI_LOG.replace('rt: ok', 'rt: must-fail one/four.edit: refused, as it must be: x\nrt: ok')), 'four.edit: rt ci says something of it')
+
+
 class Refusals(Tree):
-    """A must-fail log is left by rt in target/, beside the crate with the edit in it."""
+    """By the whole output of a check, which tests/refusals reads."""
 
-    def setUp(self):
-        super().setUp()
-        self.edited = {'twice n = n + n\n': 'twice n = n + n + n\n', 'm + wide(n)': 'm + 0'}
-        self.log('one', 'three', LAW_LOG)
-        self.log('one_code', 'wrong_1', CODE_LOG)
-
-    def log(self, crate, edit, said):
-        where = f'target/must-fail/{crate}/{edit}'
-        for folder in ('src', 'specs', 'proofs'):
-            for file in (self.root / 'crates' / crate).glob(f'{folder}/**/*.*'):
-                content = file.read_text()
-                for old, new in self.edited.items():
-                    content = content.replace(old, new)
-                self.write(f'{where}/{file.relative_to(self.root / "crates" / crate)}', content)
-        self.write(f'{where}/.log', said.replace('ROOT', str(self.root / where)))
+    def fault(self, crate, log):
+        (edit,) = edits.edits(self.root / 'crates' / crate)
+        return refusals.fault_of(edit, log)
 
     def test_wrapped_facts_are_facts(self):
-        self.passes(refusals.check_refusals, 2)
+        self.assertIsNone(self.fault('one', LAW_LOG))
+        self.assertIsNone(self.fault('one_code', CODE_LOG))
+        self.assertIsNone(self.fault('one_code', CODE_LOG.replace('Answers.antt:8', 'Proof.antt:8')))
+
+    def test_note_of_a_function(self):
+        note = 'note: src/lib.rt:8:1: it is not proved that what the function ensures holds when it returns (`returns`)\n'
+        self.assertIsNone(self.fault('one_code', note + CODE_LOG[CODE_LOG.index('fn one_code'):]))
 
     def test_law_that_is_only_unfit_in_the_second_line(self):
-        unfit = '`twice-sum`: module `Rattle·one·specs.specs.Twice` has no `twice`\n  that can be named from here\n'
-        fact = 'ROOT/proofs/Other.antt:3:1: error: `other`: expected type `1 ≡ 2`, but this has type `1 ≡ 1`\n'
+        unfit = '`twice-sum`: module `Rattle.one.specs.Twice` has no `twice`\n  that can be named from here\n'
+        fact = './proofs/Other.antt:3:1: error: `other`: expected type `1 ≡ 2`, but this has type `1 ≡ 1`\n'
         for after in ('logic=not-proved\n', LAW_LOG):
-            self.log('one', 'three', f'{fact}ROOT/proofs/Laws.antt:8:1: error: {unfit}{after}')
-            self.refuses(refusals.check_refusals, 'twice-sum did not refuse it')
+            self.assertIn('twice-sum did not refuse it', self.fault('one', f'{fact}./proofs/Laws.antt:8:1: error: {unfit}{after}'))
 
-    def test_log_that_is_unfit_first(self):
-        unfit = 'ROOT/proofs/Laws.antt:3:1: error: `thrice`: record `Rattle·one·specs.specs.Twice.Pair`\n  has no field `n`\n'
-        self.log('one', 'three', unfit + LAW_LOG)
-        self.refuses(refusals.check_refusals, 'names no fact first')
+    def test_output_that_is_unfit_first(self):
+        unfit = './proofs/Laws.antt:3:1: error: `thrice`: record `Rattle.one.specs.Twice.Pair`\n  has no field `n`\n'
+        self.assertIn('names no fact first', self.fault('one', unfit + LAW_LOG))
 
     def test_function_whose_proof_is_unfit_first(self):
-        unfit = 'ROOT/proofs/twice/Proof.antt:4:1: error: `wide-requires`: module `Tie` has no `Need-wide-requires`\n  that can be named from here\n'
-        fact = 'ROOT/proofs/wide/Proof.antt:3:1: error: `returns`: expected type `1 ≡ 2`, but this has type `1 ≡ 1`\n'
-        self.log('one_code', 'wrong_1', fact + unfit + CODE_LOG)
-        self.refuses(refusals.check_refusals, 'twice_once', 'not refused at a fact in the proof of the function')
+        unfit = './proofs/twice/Answers.antt:4:1: error: `wide-requires`: module `Goals` has no `wide-requires`\n  that can be named from here\n'
+        fact = './proofs/wide/Answers.antt:3:1: error: `returns`: expected type `1 ≡ 2`, but this has type `1 ≡ 1`\n'
+        self.assertIn('not refused at a fact in the proof of the function', self.fault('one_code', fact + unfit + CODE_LOG))
 
     def test_function_that_is_proved(self):
-        self.log('one_code', 'wrong_1', CODE_LOG.replace('twice: not proved', 'twice: proved'))
-        self.refuses(refusals.check_refusals, 'not refused at a fact')
+        for proved in ('proved', 'proved, may abort'):
+            log = re.sub(r'twice: no proof.*', f'twice: {proved}', CODE_LOG)
+            self.assertIn('not refused at a fact', self.fault('one_code', log))
+
+    def test_crate_that_is_proved(self):
+        self.assertIn('did not refuse it', self.fault('one', LAW_LOG.replace('logic=not-proved', 'logic=proved')))
 
     def test_quoted_words_count_for_nothing(self):
         self.assertTrue(refusals.is_fact('error: `a`: the two types are `b was not admitted` (expected) and `c` (found)'))
@@ -200,36 +263,7 @@ class Refusals(Tree):
         self.assertFalse(refusals.is_fact('error: `)` cannot continue the declaration here'))
 
     def test_notes_are_no_errors(self):
-        self.log('one', 'three', 'ROOT/proofs/Laws.antt:8:1: note: the name is idle\n' + LAW_LOG)
-        self.passes(refusals.check_refusals, 2)
-
-    def test_log_of_another_text(self):
-        self.change('crates/one/proofs/Laws.antt', 'omega arith', 'omega (arith, small)')
-        self.refuses(refusals.check_refusals, 'its log is of another text')
-
-    def test_log_of_a_crate_with_another_file(self):
-        self.write('target/must-fail/one/three/proofs/More.antt', '-- A law that is no longer there.\n')
-        self.refuses(refusals.check_refusals, 'its log is of another text')
-
-    def test_log_of_another_edit(self):
-        self.change('crates/one/must-fail/three.edit', 'new: twice n = n + n + n', 'new: twice n = n + 1')
-        self.refuses(refusals.check_refusals, 'its log is of another text')
-
-    def test_log_of_a_proved_crate(self):
-        self.log('one', 'three', LAW_LOG.replace('logic=not-proved', 'logic=proved'))
-        self.refuses(refusals.check_refusals, 'its log is of another text')
-
-    def test_no_log(self):
-        (self.root / 'target/must-fail/one/three/.log').unlink()
-        self.refuses(refusals.check_refusals, 'left no log')
-
-    def test_two_wrong_programs_of_one_function(self):
-        edit = BASE['crates/one_code/must-fail/wrong_1.edit']
-        again = edit.replace('twice_once', 'again').replace('m + wide(n)', 'let m = wide(n);').replace('m + 0', 'let m = 0;')
-        self.write('crates/one_code/must-fail/wrong_1.edit', f'{edit}\n{again}')
-        self.edited['let m = wide(n);'] = 'let m = 0;'
-        self.log('one_code', 'wrong_1', CODE_LOG)
-        self.refuses(refusals.check_refusals, 'again: another wrong program of this edit changes the same function')
+        self.assertIsNone(self.fault('one', './proofs/Laws.antt:8:1: note: the name is idle\n' + LAW_LOG))
 
 
 class Contracts(Tree):
@@ -238,11 +272,11 @@ class Contracts(Tree):
         self.passes(contracts.check_contracts, 1)
 
     def test_requires_behind_a_wrapped_contract(self):
-        self.change('crates/one_code/src/lib.rt', '≡ twice n ⌝ }\n', '≡ twice n ⌝ }\n    requires {\n        ⌜ n < 4 ⌝\n    }\n')
+        self.change('crates/one_code/src/lib.rt', '≡ twice n }\n', '≡ twice n }\n    requires small {\n        n < 4\n    }\n')
         self.refuses(contracts.check_contracts, 'one_code::twice has a requires')
 
     def test_ensures_in_a_comment_alone(self):
-        self.change('crates/one_code/src/lib.rt', '    ensures { λ r. ⌜ r ≡ twice n ⌝ }\n', '    // ensures { .. }\n')
+        self.change('crates/one_code/src/lib.rt', '    ensures { result ≡ twice n }\n', '    // ensures { .. }\n')
         self.refuses(contracts.check_contracts, 'says nothing of its answer')
 
     def test_public_function_with_an_attribute_in_its_line_or_in_a_module(self):
@@ -302,7 +336,7 @@ class Contracts(Tree):
         self.refuses(contracts.check_contracts, 'changes a contract or a signature')
 
     def test_edit_of_a_contract_in_its_second_line(self):
-        self.change('crates/one_code/must-fail/wrong_1.edit', 'old: ', 'old:         λ r. ⌜ r ≡ n ⌝\nnew:         λ r. ⌜ r ≡ 1 ⌝\nold: ')
+        self.change('crates/one_code/must-fail/wrong_1.edit', 'old: ', 'old:         result ≡ n\nnew:         result ≡ 1\nold: ')
         self.refuses(contracts.check_contracts, 'changes a contract or a signature')
 
     def test_edit_of_a_proof(self):
@@ -341,6 +375,68 @@ class Contracts(Tree):
         self.refuses(check, 'wide has a %')
         self.write('crates/one_code/src/lib.rt', '// fn wide(n: u8)\n')
         self.refuses(check, 'was not found')
+
+
+class Exports(Tree):
+    CODE = 'crates/one_c/src/lib.rt'
+
+    def setUp(self):
+        super().setUp()
+        self.write('crates.txt', '# crates\none:\none_code: one\none_c staticlib: one one_code\n')
+        added = 'pub fn sum(\n    n: u8,\n    m: &[u8; rows::MOST],\n) -> u32\n    ensures { result ≡ n }\n{\n    sum_of(n)\n}\n\n'
+        self.change('crates/one_code/src/lib.rt', 'fn wide(n: u8)', added + 'fn wide(n: u8)')
+        head = '#[unsafe(no_mangle)]\npub extern "C" fn'
+        self.write(self.CODE, f'''// Twice, for C.
+{head} twice(n: u8) -> u32
+    ensures {{ result ≡ twice n }}
+{{
+    one_code::twice(n)
+}}
+
+{head} sum(n: u8, m: &[u8; rows::MOST]) -> u32
+    ensures {{ result ≡ n }}
+{{
+    one_code::sum(n, m)
+}}
+''')
+        for crate, name, old in (('one_code', 'sum', 'sum_of(n)'), ('one_c', 'twice', 'one_code::twice(n)'), ('one_c', 'sum', 'one_code::sum(n, m)')):
+            self.write(f'crates/{crate}/must-fail/{name}.edit', f'guards: {name}\nwhy: one\nfile: src/lib.rt\nold: {old}\nnew: 1\n')
+        self.change('crates/one/must-fail/three.edit', 'guards: one_code::twice', 'guards: one_code::twice one_code::sum')
+
+    def test_passes(self):
+        self.passes(contracts.check_contracts, 4)
+        faults = []
+        due = {'one_c::twice': 'one_code::twice', 'one_c::sum': 'one_code::sum'}
+        self.assertEqual((contracts.check_exports(self.root, faults), faults), (due, []))
+
+    def test_what_it_stands_for_is_guarded(self):
+        self.change('crates/one/must-fail/three.edit', ' one_code::sum', '')
+        faults = []
+        contracts.check_contracts(self.root, faults)
+        self.assertEqual(faults, [f'{crate}::sum has no must-fail edit with a wrong definition' for crate in ('one_c', 'one_code')])
+
+    def test_its_own_wrong_program(self):
+        (self.root / 'crates/one_c/must-fail/sum.edit').unlink()
+        self.refuses(contracts.check_contracts, 'one_c::sum has no must-fail edit with a wrong program')
+
+    def test_no_library_for_c(self):
+        self.write('crates.txt', 'one:\none_code: one\none_c: one one_code\n')
+        faults = []
+        contracts.check_contracts(self.root, faults)
+        self.assertEqual(faults, [f'one_c::{name} has no must-fail edit with a wrong definition' for name in ('sum', 'twice')])
+
+    def test_no_call_of_the_same(self):
+        code = (self.root / self.CODE).read_text()
+        for old, new in (('result ≡ n }', 'result ≡ n + 0 }'), ('    ensures { result ≡ n }\n', ''), ('sum(n: u8', 'sum(n: u16'), ('C" fn sum', 'C" fn add'), ('pub extern "C" fn sum', 'fn sum'),
+                         ('one_code::sum(n, m)', 'one_code::add(n, m)'), ('one_code::sum(n, m)', 'let k = n; one_code::sum(k, m)'), ('one_code::sum(n, m)', '0')):
+            self.write(self.CODE, code.replace(old, new))
+            self.refuses(lambda root, faults: contracts.check_exports(root, faults), 'is no call of a function below with its name and its contract')
+
+    def test_other_arguments(self):
+        for call in ('sum(m, n)', 'sum(n)', 'sum(n, n)'):
+            self.write(self.CODE, (self.root / self.CODE).read_text().replace('one_code::sum(n, m)', f'one_code::{call}'))
+            self.refuses(lambda root, faults: contracts.check_exports(root, faults), 'one_c::sum does not hand its arguments on')
+            self.setUp()
 
 
 class Claims(Tree):
@@ -398,19 +494,19 @@ class Statements(Tree):
         record = 'pub record Small (n : ℕ) : Type 0 where\n  pub below : n < 4\n'
         self.write('crates/two/proofs/Defs.antt', f'-- Sizes.\n{record}\nplain : ℕ → Type 0\nplain n = n ≡ n\n')
         ways = (
-            ('.{Small}', 'Small'), ('.{Small as S}', 'S'), (' as d', 'd.Small'), ('', 'Defs.Small'), ('', 'Rattle·two.proofs.Defs.Small'),
+            ('.{Small}', 'Small'), ('.{Small as S}', 'S'), (' as d', 'd.Small'), ('', 'Defs.Small'), ('', 'Rattle.two.proofs.Defs.Small'),
             ('.{plain}', 'plain'))
         for use, name in ways:
             with self.subTest(use=use, name=name):
                 content = BASE['crates/one/proofs/Laws.antt'].replace('→ twice n', f'→ {name} n → twice n')
-                self.write('crates/one/proofs/Laws.antt', content.replace('use Rattle', f'use Rattle·two.proofs.Defs{use}\nuse Rattle', 1))
+                self.write('crates/one/proofs/Laws.antt', content.replace('use Rattle', f'use Rattle.two.proofs.Defs{use}\nuse Rattle', 1))
                 self.refuses(claims.check_statements, f'states something by {name}')
 
     def test_operator(self):
-        self.write('crates/two/proofs/Defs.antt', '-- Sizes.\nabbrev pub _fits_ : ℕ → ℕ → Type 0\na fits b = a < b\n')
-        for use, name in (('_fits_', 'fits'), ('_fits_ as _in_', 'in')):
+        self.write('crates/two/proofs/Defs.antt', '-- Sizes.\nabbrev pub ◌fits◌ : ℕ → ℕ → Type 0\na fits b = a < b\n')
+        for use, name in (('◌fits◌', 'fits'), ('◌fits◌ as ◌in◌', 'in')):
             content = BASE['crates/one/proofs/Laws.antt'].replace('→ twice n', f'→ n {name} 4 → twice n')
-            self.write('crates/one/proofs/Laws.antt', content.replace('use Rattle', f'use Rattle·two.proofs.Defs.{{{use}}}\nuse Rattle', 1))
+            self.write('crates/one/proofs/Laws.antt', content.replace('use Rattle', f'use Rattle.two.proofs.Defs.{{{use}}}\nuse Rattle', 1))
             self.refuses(claims.check_statements, f'states something by {name}')
 
     def test_law_over_variables_among_worked_examples(self):
@@ -421,10 +517,10 @@ class Statements(Tree):
         self.refuses(claims.check_statements, 'law states something by two')
 
     def test_contract_or_definition_by_what_stands_in_proofs(self):
-        ways = {'crates/one_code/src/lib.rt': 'ghost use Rattle·one.proofs.Laws.{thrice};', 'crates/one/specs/Twice.antt': 'use Rattle·one.proofs.Laws as l'}
+        ways = {'crates/one_code/src/lib.rt': 'ghost use Rattle.one.proofs.Laws.{thrice};', 'crates/one/specs/Twice.antt': 'use Rattle.one.proofs.Laws as l'}
         for path, line in ways.items():
             self.write(path, line + '\n' + BASE[path])
-            self.refuses(claims.check_statements, f'{path}: names Rattle·one.proofs.Laws')
+            self.refuses(claims.check_statements, f'{path}: names Rattle.one.proofs.Laws')
             self.write(path, BASE[path])
 
     def test_bound_names_and_fields_are_no_uses(self):
@@ -494,7 +590,7 @@ class Unfolding(Tree):
     WORKED = 'crates/placement/proofs/Worked.antt'
 
     def unfold(self, path, use, line, statement='pub law : (n : ℕ) → b n ≡ n', proof='law n = refl'):
-        self.write(path, f'-- A law.\nuse Rattle·prediction.specs.Blocks{use}\n\n{statement}\n{line}\n{proof}\n')
+        self.write(path, f'-- A law.\nuse Rattle.prediction.specs.Blocks{use}\n\n{statement}\n{line}\n{proof}\n')
 
     def test_passes(self):
         self.unfold(self.LAW, '.{blockAt}', '-- unfolding blockAt')
@@ -503,7 +599,7 @@ class Unfolding(Tree):
     def test_each_way_of_naming_it(self):
         ways = (
             ('.{blockAt}', 'blockAt'), ('.{other, blockAt as b}', 'b'), (' as x', 'x.blockAt'), ('', 'Blocks.blockAt'),
-            ('.{other}', 'Rattle·prediction.specs.Blocks.blockAt'), ('.{blockAt}', 'other\n    more blockAt'),
+            ('.{other}', 'Rattle.prediction.specs.Blocks.blockAt'), ('.{blockAt}', 'other\n    more blockAt'),
             ('.{\n    other,\n    blockAt\n  }', 'blockAt'), (' as x\nuse x.{blockAt}', 'blockAt'))
         for use, names in ways:
             with self.subTest(use=use, names=names):
@@ -524,8 +620,16 @@ class Unfolding(Tree):
         self.refuses(laws.check_unfolding, 'specs/Twice.antt: law unfolds blockAt')
 
     def test_in_a_contract(self):
-        self.change('crates/one_code/src/lib.rt', '⌜ r ≡ twice n ⌝', '⌜ unfold twice in (r ≡ twice n) ⌝')
+        self.change('crates/one_code/src/lib.rt', 'result ≡ twice n', 'unfold twice in (result ≡ twice n)')
         self.refuses(laws.check_unfolding, 'a contract unfolds')
+
+    def test_in_a_hint(self):
+        hint = '#[tactic(auto, using(a::b), unfolding(crate::specs::Twice::twice, prediction::specs::Blocks::blockAt))]\n'
+        self.write('crates/prediction_code/src/lib.rt', hint)
+        self.change('crates/one_code/src/lib.rt', 'fn wide', hint.replace(', prediction::specs::Blocks::blockAt', '') + 'fn wide')
+        self.passes(laws.check_unfolding)
+        self.change('crates/one_code/src/lib.rt', 'Twice::twice)', 'Twice::twice, prediction::specs::Blocks::blockAt)')
+        self.refuses(laws.check_unfolding, 'one_code/src/lib.rt: a proof unfolds prediction::specs::Blocks::blockAt')
 
     def test_own_laws_and_code_may(self):
         for crate in ('prediction', 'prediction_code'):
@@ -573,13 +677,13 @@ class Unfolding(Tree):
         self.unfold('crates/prediction_code/proofs/Laws.antt', '.{blockAt}', '-- none')
         self.passes(laws.check_open, 1)
         self.change('crates/prediction/specs/Blocks.antt', 'pub blockAt', 'unfoldable abbrev pub blockAt')
-        self.refuses(laws.check_open, 'Laws.antt: uses Rattle·prediction.specs.Blocks.blockAt')
-        for use, name in (('.{other}', 'Rattle·prediction.specs.Blocks.blockAt'), (' as x', 'x.blockAt'), ('.{blockAt as b}', 'b')):
+        self.refuses(laws.check_open, 'Laws.antt: uses Rattle.prediction.specs.Blocks.blockAt')
+        for use, name in (('.{other}', 'Rattle.prediction.specs.Blocks.blockAt'), (' as x', 'x.blockAt'), ('.{blockAt as b}', 'b')):
             self.unfold(self.LAW, use, '-- none', f'pub law : {name} 1 ≡ 1')
-            self.refuses(laws.check_open, 'Laws.antt: uses Rattle·prediction.specs.Blocks.blockAt')
+            self.refuses(laws.check_open, 'Laws.antt: uses Rattle.prediction.specs.Blocks.blockAt')
         self.unfold(self.LAW, '.{still}', '-- none')
-        self.change('crates/one_code/src/lib.rt', 'ghost use', 'ghost use Rattle·prediction.specs.Blocks.{blockAt};\nghost use')
-        self.refuses(laws.check_open, 'lib.rt: uses Rattle·prediction.specs.Blocks.blockAt')
+        self.change('crates/one_code/src/lib.rt', 'ghost use', 'ghost use Rattle.prediction.specs.Blocks.{blockAt};\nghost use')
+        self.refuses(laws.check_open, 'lib.rt: uses Rattle.prediction.specs.Blocks.blockAt')
 
 
 class Borders(Tree):
@@ -591,23 +695,27 @@ class Borders(Tree):
         self.write(path, f'-- A law.\n{line}\n')
 
     def test_passes(self):
-        self.use('crates/one_code/proofs/twice/Proof.antt', 'use Rattle·one.proofs.Bridge.{law}')
-        self.use('crates/two/proofs/Laws.antt', 'use Rattle·one.proofs.Laws.{law}\n-- Rattle·one.proofs.Bridge')
+        self.use('crates/one_code/proofs/twice/Proof.antt', 'use Rattle.one.proofs.Bridge.{law}')
+        self.use('crates/two/proofs/Laws.antt', 'use Rattle.one.proofs.Laws.{law}\n-- Rattle.one.proofs.Bridge')
+        self.use('crates/one/proofs/Bridge.antt', 'use Rattle.one.proofs.Bridge as b')
         self.passes(laws.check_borders, 1)
 
     def test_each_way_of_naming_it(self):
-        module = 'Rattle·one.proofs.Bridge'
-        for line in (f'use {module}.{{law}}', f'use {module} as b', f'use package.{module}', f'law = {module}.law'):
+        module = 'Rattle.one.proofs.Bridge'
+        for line in (f'use {module}.{{law}}', f'use {module} as b', f'law = {module}.law'):
             with self.subTest(line=line):
                 self.use('crates/two/proofs/Laws.antt', line)
                 self.refuses(laws.check_borders, 'cites Bridge of one')
+        self.use('crates/two/proofs/Laws.antt', '')
+        self.write('crates/two/src/lib.rt', '#[tactic(auto, using(one::proofs::Bridge::law))]\nfn f() {\n}\n')
+        self.refuses(laws.check_borders, 'crates/two/src/lib.rt: cites Bridge of one')
 
     def test_whole_crates_and_what_is_passed_on(self):
-        for line in ('use Rattle·one.proofs as p', 'use Rattle·one', 'use package.Rattle·one.proofs', 'use Rattle·one.{proofs.Bridge.law}'):
+        for line in ('use Rattle.one.proofs as p', 'use Rattle.one', 'use Rattle.one.specs', 'use Rattle as r', 'use Rattle.one.{proofs.Bridge.law}'):
             with self.subTest(line=line):
                 self.use('crates/two/proofs/Laws.antt', line)
                 self.refuses(laws.check_borders, 'brings in a whole crate')
-        self.use('crates/two/proofs/Laws.antt', 'unfoldable pub use Rattle·one.specs.Twice.{twice}')
+        self.use('crates/two/proofs/Laws.antt', 'unfoldable pub use Rattle.one.specs.Twice.{twice}')
         self.refuses(laws.check_borders, 'passes on')
 
 
@@ -643,6 +751,42 @@ class Reports(unittest.TestCase):
 
 
 class Reading(unittest.TestCase):
+    def test_functions_with_named_clauses_and_of_types(self):
+        code = '''pub fn f(n: u8) -> u8
+    requires small { n < 4 }
+    requires* held
+    {
+        at n
+    }
+    ensures* { result ≡ f { n } }
+    ensures low { result < 4 }
+{
+    n
+}
+
+mod inner {
+    impl<T: Copy> fmt::Display for Rows<T> {
+        fn fmt(&self) -> u8 {
+            1
+        }
+    }
+
+    impl Rows<u8> {
+        pub fn new() -> u8 { 2 }
+    }
+}
+
+pub(crate) fn last() {}
+'''
+        found = [(f.called(), f.module, f.public, f.body.split()) for f in rattle.functions_in(code, '', [])]
+        due = [('f', [], True, ['{', 'n', '}']), ('Rows::fmt', ['inner'], False, ['{', '1', '}']), ('Rows::new', ['inner'], True, ['{', '2', '}']), ('last', [], False, ['{}'])]
+        self.assertEqual(found, due)
+
+    def test_crates_that_are_listed(self):
+        with tempfile.TemporaryDirectory() as root:
+            (pathlib.Path(root) / 'crates.txt').write_text('# a: b\na:\nb staticlib: a c # d\n\nc status=3 : a\n')
+            self.assertEqual(edits.listed(pathlib.Path(root)), {'a': ([], []), 'b': (['staticlib'], ['a', 'c']), 'c': (['status=3'], ['a'])})
+
     def test_members_of_types_and_modules(self):
         code = 'pub data P : Type 0 where\n  a b : P\n\nmutual\n  f : P → P\n  f x = x\n\ng {A : Type 0} : A\n'
         found = [(d.name, d.kind) for d in antt.declarations(code)]

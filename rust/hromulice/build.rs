@@ -19,7 +19,7 @@ fn main() {
         println!("cargo::rustc-link-lib=static=hromulice");
     } else {
         println!(
-            "cargo::error=there is no {}: build it by `rt staticlib hromulice` at the root of the repository, or name the \
+            "cargo::error=there is no {}: build it by `tests/build library` at the root of the repository, or name the \
              directory that holds libhromulice.a in HROMULICE_LIB_DIR",
             archive.display()
         );

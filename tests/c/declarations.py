@@ -5,7 +5,7 @@
     declarations.py --self-test   each of several wrong declarations, in a copy of the files, has to be found
 
 include/hromulice.h is compared with
-- the library itself: its exported functions and the layout of their structs, the words of a state, and its version (crates/*/src/*.rt);
+- the library itself: its exported functions (crates/hromulice_c) and the layout of their structs, the words of a state, and its version;
 - the Rust crate: functions, structs, the words of a state, numbers, sizes of record, command and mount sheet, version (rust/hromulice);
 - the comparison with the second program, which declares the functions that it calls once more (rust/differential);
 - the examples' sizes of a record (examples/c/check_batch.c) and of a mount sheet (examples/c/mounts.c).
@@ -26,11 +26,11 @@ MOUNTS = 'rust/hromulice/src/mounts.rs'
 CARGO = 'rust/hromulice/Cargo.toml'
 EXAMPLE = 'examples/c/check_batch.c'
 MOUNTS_EXAMPLE = 'examples/c/mounts.c'
-EXPORTS = 'crates/hromulice/src'
+EXPORTS = 'crates/hromulice_c/src/lib.rt'
+VERSION = 'crates/hromulice/src/version.rt'
 STRUCTS = ['crates/interface/src/lib.rt', 'crates/batch/src/lib.rt']
 MEMORY = 'crates/memory/src/lib.rt'
-MOUNTING = f'{EXPORTS}/mounting.rt'
-FILES = [HEADER, CRATE, COMPARISON, REASONS, SIZES, MOUNTS, CARGO, EXAMPLE, MOUNTS_EXAMPLE, *STRUCTS, MEMORY]
+FILES = [HEADER, CRATE, COMPARISON, REASONS, SIZES, MOUNTS, CARGO, EXAMPLE, MOUNTS_EXAMPLE, EXPORTS, VERSION, *STRUCTS, MEMORY]
 
 # C's types as Rust's. A struct of C is named by the word behind hromulice_.
 SCALARS = {'uint8_t': 'u8', 'uint16_t': 'u16', 'uint32_t': 'u32', 'uint64_t': 'u64', 'int16_t': 'i16', 'size_t': 'usize'}
@@ -225,8 +225,8 @@ def compare_versions(header, root):
     same(constants['VERSION_TEXT'], f'"{version}"', f'{HEADER}: the text of the version')
     need(re.search(rf'^ \* {re.escape(version)}: ', header['text'], re.M), f'{HEADER}: its history does not tell of {version}')
     same(only(r'^version = "(.*)"$', (root / CARGO).read_text(), f'{CARGO}: the version'), version, f'{CARGO}: the version')
-    own = (root / EXPORTS / 'version.rt').read_text()
-    same([only(rf'^const {part}: u32 = (\d+);$', own, f'version.rt: {part}') for part in ('MAJOR', 'MINOR', 'PATCH')], parts, 'version.rt')
+    own = (root / VERSION).read_text()
+    same([only(rf'^const {part}: u32 = (\d+);$', own, f'{VERSION}: {part}') for part in ('MAJOR', 'MINOR', 'PATCH')], parts, VERSION)
 
 
 def lent(kind, name):
@@ -247,13 +247,13 @@ def compare_library(header, root):
     words = only(r'^pub const WORDS: usize = (\d+);$', (root / MEMORY).read_text(), f'{MEMORY}: WORDS')
     same(words, header['constants']['STATE_WORDS'], f'{MEMORY}: WORDS')
     functions = {}
-    for file in sorted((root / EXPORTS).glob('**/*.rt')):
-        text = without_comments(file.read_text())
-        found = re.findall(r'^#\[no_mangle\]\npub extern "C" fn (\w+)\(([^)]*)\)(?: -> (\w+))?$', text, re.M)
-        need(len(found) == text.count('extern "C"') == text.count('no_mangle'), f'{file.name}: an exported function is not read')
-        for name, arguments, answer in found:
-            given = re.findall(r'(\w+): ([^,]+)', arguments)
-            functions[name] = (OWN_STRUCTS.get(answer, answer) or None, [c for argument, kind in given for c in lent(kind, argument)])
+    text = without_comments((root / EXPORTS).read_text())
+    found = re.findall(r'^#\[unsafe\(no_mangle\)\]\npub extern "C" fn (\w+)\(([^)]*)\)(?: -> (\w+))?$', text, re.M)
+    need(len(found) == text.count('extern "C"') == text.count('no_mangle'), f'{EXPORTS}: an exported function is not read')
+    need(not re.search(r'^ *(?:pub )?mod\b', text, re.M), f'{EXPORTS}: it has other files')
+    for name, arguments, answer in found:
+        given = re.findall(r'(\w+): ([^,]+)', arguments)
+        functions[name] = (OWN_STRUCTS.get(answer, answer) or None, [c for argument, kind in given for c in lent(kind, argument)])
     same(set(functions), set(header['functions']), 'the functions of the library')
     for name, (answer, arguments) in functions.items():
         due = header['functions'][name]
@@ -340,13 +340,13 @@ WRONG = [
     ('no first bytes', STRUCTS[0], r' *pub firsts: Lengths,\n', ''),
     ('x and y exchanged', STRUCTS[0], r'(pub )x(: i16,\n *pub )y', r'\1y\2x'),
     ('a shift without its sign', STRUCTS[0], r'x: i16', 'x: u16'),
-    ('a function is not exported', f'{EXPORTS}/single.rt', r'#\[no_mangle\]\n', ''),
-    ('an argument of another type', f'{EXPORTS}/whole.rt', r'words: &\[u32\]', 'words: &[u64]'),
-    ('an argument that is written', f'{EXPORTS}/handing.rt', r'(report_of\(memory: &)', r'\1mut '),
-    ('boat and edition exchanged', MOUNTING, r'(hromulice_ask_mount\(.*?)boat: u32, edition: u32', r'\1edition: u32, boat: u32'),
-    ('edition and side exchanged', MOUNTING, r'(hromulice_add_mount\(.*?)edition: u32,\s+side: u32', r'\1side: u32, edition: u32'),
-    ('sheets that are not written', MOUNTING, r'(hromulice_add_mount\(\s*sheets: &)mut ', r'\1'),
-    ('another version', f'{EXPORTS}/version.rt', r'(MAJOR: u32 = )', r'\g<1>1'),
+    ('a function is not exported', EXPORTS, r'#\[unsafe\(no_mangle\)\]\n', ''),
+    ('an argument of another type', EXPORTS, r'words: &\[u32\]', 'words: &[u64]'),
+    ('an argument that is written', EXPORTS, r'(report_of\(memory: &)', r'\1mut '),
+    ('boat and edition exchanged', EXPORTS, r'(hromulice_ask_mount\(.*?)boat: u32, edition: u32', r'\1edition: u32, boat: u32'),
+    ('edition and side exchanged', EXPORTS, r'(hromulice_add_mount\(.*?)edition: u32,\s+side: u32', r'\1side: u32, edition: u32'),
+    ('sheets that are not written', EXPORTS, r'(hromulice_add_mount\(\s*sheets: &)mut ', r'\1'),
+    ('another version', VERSION, r'(MAJOR: u32 = )', r'\g<1>1'),
 ]
 
 
@@ -355,7 +355,6 @@ def self_test(root):
     for what, path, pattern, instead in WRONG:
         with tempfile.TemporaryDirectory() as folder:
             copy = pathlib.Path(folder)
-            shutil.copytree(root / EXPORTS, copy / EXPORTS)
             for name in FILES:
                 (copy / name).parent.mkdir(parents=True, exist_ok=True)
                 shutil.copy(root / name, copy / name)

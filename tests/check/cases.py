@@ -1,4 +1,4 @@
-"""The cases of ./check (running.py). A case has a copy of the repository, built, and stubs/rt in place of the kit's rt."""
+"""The cases of ./check (running.py). A case has a copy of the repository, built, and stubs/rt and stubs/rattle in place of the kit's."""
 import running
 from running import Case
 
@@ -15,6 +15,11 @@ NO_RECORD = '[[ ! -e target/bin/checker.built ]]'
 
 def building(why, crates, self='check', what='the checker'):
     return running.building(why, crates, self, what)
+
+
+def some(crates):
+    """What is said of each crate, in any order."""
+    return '(check: [0-9]+/' + str(len(crates)) + r' \w+\n)' + '{' + str(len(crates)) + '}'
 
 
 def answers():
@@ -132,8 +137,6 @@ def old_products(crates):
         ('a file has another name', 'mv crates/input/src/lib.rt crates/input/src/lib2.rt', CHANGED),
         ('two files are exchanged', 'cd crates/batch_code/src; set -- *.rt; mv $1 x; mv $2 $1; mv x $2; cd ../../..', CHANGED),
         ("the program's input changed", 'printf x >> crates/checker/stdin', CHANGED),
-        ('a crate changed that another one needs',
-         "sed -i 's/^checker:.*/checker: input_code bytes io libc/' crates.txt; ./check samples/p1.batch; " + ADD + 'crates/fields/src/lib.rt', CHANGED),
         ('crates.txt changed', 'echo "# changed" >> crates.txt', CHANGED),
         ('a date was put back', 'touch -r crates/rows/src/lib.rt t; ' + ADD + 'crates/rows/src/lib.rt; touch -r t crates/rows/src/lib.rt', CHANGED),
         ('another kit', 'export FAKE_KIT="fake kit 2"', 'it was built by another kit, fake kit 1'),
@@ -146,9 +149,12 @@ def old_products(crates):
         ('half a record', 'sed -i 2q target/bin/checker.built', unknown),
         ('neither program nor record', 'rm target/bin/checker*', 'it is not built yet'),
         ('nothing', 'rm -r target', 'it is not built yet'),
-        ('built by hand from changed sources, which were put back',
-         'cp crates/checker/src/main.rt k; ' + ADD + f'crates/checker/src/main.rt; says "{ONES}"; rt check checker; mv k crates/checker/src/main.rt', not_built),
+        ('built from changed sources, which were put back together with the record',
+         'cp crates/checker/src/main.rt k; cp target/bin/checker.built r; ' + ADD + f'crates/checker/src/main.rt; says "{ONES}"; '
+         './check samples/p1.batch; mv k crates/checker/src/main.rt; mv r target/bin/checker.built', not_built),
     ]
+    yield Case('a crate changed that another one needs', './check samples/p1.batch; ./check samples/p1.batch', 0, 2 * (SEVENS + '\n'), building(CHANGED, []) + some(crates),
+               "sed -i 's/^checker:.*/checker: input_code/' crates.txt; ./check samples/p1.batch; " + ADD + f"crates/fields/src/lib.rt; says '{SEVENS}'", 1)
     for name, before, why in states:
         yield Case(name, './check samples/p1.batch; ./check samples/p1.batch', 0, 2 * (SEVENS + '\n'), building(why, crates), before + f"; says '{SEVENS}'", 1)
 
@@ -170,7 +176,7 @@ def failing_builds(crates):
     all_but_last = building(CHANGED, crates)[:-len(f'check: {len(crates)}/{len(crates)} checker\n')]
     not_built = 'check: the checker was not built from the sources as they are; all that rt said is in {repo}/target/log/checker.build\n'
     return [
-        Case('not proved', './check samples/p1.batch', 2, err=all_but_last + '(rt: .*\n)+rt: FAILED: checker\n' + not_built, builds=1,
+        Case('not proved', './check samples/p1.batch', 2, err=all_but_last + '((rt:|==) .*\n)+rt: FAILED: checker\n1 passed, 1 failed\n' + not_built, builds=1,
              before=changed + 'export FAKE_DOES=fails', after=NO_RECORD),
         Case('not proved, several files', './check none samples/p1.batch samples/p1.batch 2> /dev/null', 2, builds=1,
              before=changed + 'export FAKE_DOES=fails', after=NO_RECORD),
@@ -179,7 +185,7 @@ def failing_builds(crates):
              err=building(CHANGED, crates) + 'check: the sources changed while the checker was built from them: call again\n'),
         Case('the sources change during the build, and back', 'FAKE_DOES=edits_back ./check samples/p1.batch', 2, before=changed, builds=1,
              err=building(CHANGED, crates) + 'check: the sources changed while the checker was built from them: call again\n',
-             after=NO_RECORD + ' && [[ ! -e target/stamp/fields && ! -e target/stamp/stream ]]'),
+             after=NO_RECORD),
         Case('the sources change during the build, then not', 'FAKE_DOES=edits ./check samples/p1.batch 2> /dev/null' + again, 0, P1, before=changed, builds=2),
         Case('rt leaves a crate out', 'FAKE_DOES=omits ./check samples/p1.batch 2> /dev/null', 2, before=changed, builds=1, after=NO_RECORD),
         Case('rt links nothing', 'FAKE_DOES=links_nothing ./check samples/p1.batch 2> /dev/null', 2, before=changed, builds=1, after=NO_RECORD),
@@ -250,19 +256,31 @@ def without(kit):
     ]
 
 
-def recorded(crates):
-    here = 'rm target/bin/checker.built; '
-    log = 'see {repo}/target/log/checker.build\n'
+def left(crate, source='"$FAKE_PRODUCT"'):
+    """Puts a program where rt ci leaves it, and removes the record of the one before."""
+    return f'rm -f target/bin/{crate}.built; mkdir -p crates/{crate}/out; cp {source} crates/{crate}/out/{crate}; sleep 0.05; '
+
+
+def recorded():
+    here = left('checker')
     then = './check --built && ./check samples/p1.batch'
+    made = 'check: crates/checker/out/checker was not built from these sources: {} changed after it\n'
     return [
-        Case('--built', then, 0, P1, before=here, builds=1),
-        Case('--built, sources changed', then, 2, before=here + ADD + 'crates/fields/src/lib.rt', builds=1, after=NO_RECORD,
-             err='check: target/bin/checker was not built from these sources, some of which rt had to prove again: ' + log),
-        Case('--built, not proved', then, 2, before=here + ADD + 'crates/fields/src/lib.rt; export FAKE_DOES=fails', builds=1, after=NO_RECORD,
-             err='check: rt does not prove these sources: ' + log),
-        Case('--built, another program', then, 2, before=here + 'cat "$(type -P true)" > target/bin/checker', builds=1, after=NO_RECORD,
+        Case('--built', then, 0, P1, before=here, after='cmp "$FAKE_PRODUCT" target/bin/checker'),
+        Case('--built, another program before', then, 0, P1, before=here + 'cat "$(type -P true)" > target/bin/checker'),
+        Case('--built, nothing before', then, 0, P1, before=here + 'rm -r target'),
+        Case('--built, sources changed', then, 2, before=here + ADD + 'crates/fields/src/lib.rt', after=NO_RECORD,
+             err=made.format('crates/fields/src/lib.rt')),
+        Case('--built, sources changed and back', then, 2, before=here + 'cp crates/fields/src/lib.rt k; ' + ADD + 'crates/fields/src/lib.rt; cp k crates/fields/src/lib.rt',
+             after=NO_RECORD, err=made.format('crates/fields/src/lib.rt')),
+        Case('--built, a file came', then, 2, before=here + 'touch crates/rows/proofs/New.antt', after=NO_RECORD, err=made.format('crates/rows/proofs')),
+        Case('--built, a file went', then, 2, before=here + 'rm "$(find crates/rows/proofs -type f | sort | head -n 1)"', after=NO_RECORD,
+             err=made.format('crates/rows/proofs.*')),
+        Case('--built, crates.txt changed', then, 2, before=here + 'echo "# changed" >> crates.txt', after=NO_RECORD, err=made.format('crates.txt')),
+        Case('--built, another crate changed', then, 0, P1, before=here + ADD + 'crates/hromulice/src/lib.rt'),
+        Case('--built, another program', then, 2, before=left('checker', '"$(type -P true)"'), after=NO_RECORD,
              err='check: target/bin/checker does not print what crates/checker/stdout has\n'),
-        Case('--built, no program', then, 2, before=here + 'rm target/bin/checker', builds=1, after=NO_RECORD, err='check: target/bin/checker does not print .*\n'),
+        Case('--built, no program', then, 2, before=here + 'rm crates/checker/out/checker', after=NO_RECORD, err='check: rt ci has left no crates/checker/out/checker\n'),
         Case('--built without rt', then, 2, kit='none', err='check: .* needs the Rattle kit.*\n', before=here, after=NO_RECORD),
     ]
 
@@ -274,7 +292,6 @@ def second_program(mounts):
     here = f"says '{vector}'; tests/build mounts; "
     new = "says 'vector 3 4'; "
     stored = """says x; printf '#!/bin/sh\\n[ "$*" != "sheets list" ] || cat ../stdout\\n' > "$FAKE_PRODUCT"; """
-    log = 'see {repo}/target/log/mount_sheets.build\n'
     no_record = '[[ ! -e target/bin/mount_sheets.built && -e target/bin/checker.built ]]'
 
     def made(why):
@@ -294,11 +311,10 @@ def second_program(mounts):
         Case('mounts: not proved', call, 2, err='(?s).*mounts: the program for mount sheets was not built from the sources as they are; .*', builds=1,
              before='export FAKE_DOES=fails', after=no_record),
         Case('mounts: no rt', call, 2, err='mounts: the program for mount sheets has to be built .*: no rt that runs is on the PATH\n', kit='none'),
-        Case('mounts: --built', './mounts --built', 0, before=stored + 'tests/build mounts; rm target/bin/mount_sheets.built', builds=1,
-             after='[[ -e target/bin/mount_sheets.built ]]'),
-        Case('mounts: --built, sources changed', './mounts --built', 2, before=here + ADD + 'crates/mount_sheets/src/main.rt', builds=1, after=no_record,
-             err='mounts: target/bin/mount_sheets was not built from these sources, some of which rt had to prove again: ' + log),
-        Case('mounts: --built, another program', './mounts --built', 2, before=here, builds=1, after=no_record,
+        Case('mounts: --built', './mounts --built', 0, before=stored + left('mount_sheets'), after='[[ -e target/bin/mount_sheets.built ]]'),
+        Case('mounts: --built, sources changed', './mounts --built', 2, before=stored + left('mount_sheets') + ADD + 'crates/mount_sheets/src/main.rt', after=no_record,
+             err='mounts: crates/mount_sheets/out/mount_sheets was not built from these sources: crates/mount_sheets/src/main.rt changed after it\n'),
+        Case('mounts: --built, another program', './mounts --built', 2, before=f"says '{vector}'; " + left('mount_sheets'), after=no_record,
              err='mounts: target/bin/mount_sheets does not print what crates/mount_sheets/stdout has\n'),
         Case('mounts: --version', './mounts --version > v; s=$?; head -n 2 v; exit $s', 0, 'hromulice 9.8.7\nkit fake kit 1\n',
              before=r"""sed -i 's/^\(#define HROMULICE_VERSION_TEXT\) .*/\1 "9.8.7"/' include/hromulice.h"""),
@@ -358,17 +374,16 @@ def runners(crates, library):
 def real(crates):
     """With the kit's own rt, one after the other on one copy."""
     main, said = 'crates/checker/src/main.rt', "target/bin/checker 0> written 2>&1 | cat"
-    some = '(check: [0-9]+/' + str(len(crates)) + r' \w+\n)' + '{' + str(len(crates)) + '}'
     change = f"sed -i 's/checker: cannot read standard input/checker: cannot READ standard input/' {main}; "
     return [
-        Case('real: recorded as rt built it', './check --built && ./check samples/p1.batch', 0, P1, kit='real', before='rm -f target/bin/checker.built'),
+        Case('real: recorded as rt left it', './check --built && ./check samples/p1.batch', 0, P1, kit='real', before=left('checker', 'target/bin/checker')),
         Case('real: does not compile', './check samples/p1.batch', 2, kit='real',
              err='(?s)check: building .*rt: checker NOT PROVED.*\ncheck: the checker was not built .*\n',
              before=f'cp -a {main} target/bin/checker target/bin/checker.built "$ROOM"; echo "fn (" >> {main}', after=NO_RECORD),
         Case('real: sources changed', f'./check samples/p1.batch; ./check samples/p1.batch; {said}', 0, 2 * P1 + 'checker: cannot READ standard input\n',
-             building('it is not built yet', []) + some, kit='real', before=f'cp "$ROOM/main.rt" {main}; {change}'),
-        Case('real: built by hand from changed sources, which were put back', f'./check samples/p1.batch; {said}', 0, P1 + 'checker: cannot read standard input\n',
-             building('target/bin/checker is not the file that was built', []) + some, kit='real',
+             building('it is not built yet', []) + some(crates), kit='real', before=f'cp "$ROOM/main.rt" {main}; {change}'),
+        Case('real: built from changed sources, which were put back together with the record', f'./check samples/p1.batch; {said}', 0, P1 + 'checker: cannot read standard input\n',
+             building('target/bin/checker is not the file that was built', []) + some(crates), kit='real',
              before=f'cp "$ROOM/main.rt" {main}; cp "$ROOM/checker.built" target/bin/', after='cmp "$ROOM/checker" target/bin/checker'),
     ]
 
@@ -377,5 +392,5 @@ def all_cases(crates, mounts, library, kit, version):
     """crates, mounts and library: what the program, the one for mount sheets and the library for C are made from, in order. kit: the one that
     is asked for, as a regular expression. version: the one that the header has."""
     return [*answers(), *options(version), *descriptors(crates), *names(), *old_products(crates), *kept_products(), *failing_builds(crates), *wrong_lines(),
-            *several_at_once(crates), *without(kit), *recorded(crates), *second_program(mounts), *products(crates, mounts, library),
+            *several_at_once(crates), *without(kit), *recorded(), *second_program(mounts), *products(crates, mounts, library),
             *runners(crates, library), *real(crates)]

@@ -13,7 +13,7 @@ TOOLS = '''bash cat chmod cmp cp cut dirname env find flock grep head ln mkdir m
 def made_from(name):
     """The crates of the repository that a crate is made from, each behind those that it depends on, itself last."""
     lines = [line.split('#')[0].split(':') for line in (root / 'crates.txt').read_text().split('\n') if ':' in line.split('#')[0]]
-    needs = {head.strip(): tail.split() for head, tail in lines}
+    needs = {head.split()[0]: tail.split() for head, tail in lines}
     order = []
 
     def visit(crate):
@@ -30,6 +30,15 @@ def copy(source, target):
     subprocess.run(['cp', '-a', '--', source, target], check=True)
 
 
+def copy_crates(source, target):
+    """The crates without what rt has made of them."""
+    for crate in sorted(source.iterdir()):
+        (target / crate.name).mkdir(parents=True)
+        for part in sorted(crate.iterdir()):
+            if part.name != 'out':
+                copy(part, target / crate.name)
+
+
 def remove(folder):
     if folder.exists():
         subprocess.run(['chmod', '-R', 'u+rwX', '--', folder], check=True)
@@ -37,7 +46,7 @@ def remove(folder):
 
 
 class Room:
-    """kit/ has the stand-in for rt, compilers/ those for cargo and clang, tools/ the other commands. The script and the program behind it
+    """kit/ has the stand-ins for rt and rattle, compilers/ those for cargo and clang, tools/ the other commands. The script and the program behind it
     are those of ./check; another class may name others, and words that begin each case's text in bash (`prelude`)."""
     script = 'check'
     crate = 'checker'
@@ -51,20 +60,17 @@ class Room:
         self.used = True
         self.environment = {
             'ROOM': str(folder), 'HOME': str(folder), 'TMPDIR': str(folder), 'LC_ALL': 'C', 'FAKE_KIT': 'fake kit 1', 'FAKE_LOG': str(folder / 'log'),
-            'FAKE_GO': str(folder / 'go'), 'FAKE_ORDER': str(folder / 'order'), 'FAKE_PRODUCT': str(folder / 'product'),
-            **{name: os.environ[name] for name in ['RATTLE_HOME', 'RT_JOBS'] if name in os.environ},
+            'FAKE_GO': str(folder / 'go'), 'FAKE_PRODUCT': str(folder / 'product'),
             'NOBODY': 'setpriv --reuid=65534 --regid=65534 --clear-groups --no-new-privs' if os.geteuid() == 0 else '',
         }
         folder.chmod(0o755)
-        for name in ['tools', 'kit', 'compilers', 'order']:
+        for name in ['tools', 'kit', 'kit/bin', 'compilers']:
             (folder / name).mkdir()
         for tool in self.tools:
             (folder / 'tools' / tool).symlink_to(shutil.which(tool) or sys.exit(f'{tool} is missing'))
-        for name, place in [('rt', 'kit'), ('cargo', 'compilers'), ('clang', 'compilers')]:
+        for name, place in [('rt', 'kit'), ('rattle', 'kit/bin'), ('cargo', 'compilers'), ('clang', 'compilers')]:
             shutil.copy(root / 'tests' / 'check' / 'stubs' / name, folder / place / name)
         shutil.copy(root / 'target' / 'bin' / self.crate, folder / 'product')
-        for name in ['checker', 'mount_sheets', 'hromulice']:
-            (folder / 'order' / name).write_text('\n'.join(made_from(name)) + '\n')
         self.copy_sources(folder / 'sources', script)
         copy(folder / 'sources', folder / 'built')
         self.make_thin(folder / 'built')
@@ -72,8 +78,9 @@ class Room:
 
     def copy_sources(self, target, script):
         target.mkdir()
-        for name in ['README.md', 'check', 'crates', 'crates.txt', 'include', 'mounts', 'samples', 'scripts', 'tests']:
+        for name in ['README.md', 'check', 'crates.txt', 'include', 'mounts', 'samples', 'scripts', 'tests', *(['HANDLES'] if (root / 'HANDLES').exists() else [])]:
             copy(root / name, target / name)
+        copy_crates(root / 'crates', target / 'crates')
         if script:
             shutil.copy(script, target / self.script)
             (target / self.script).chmod(0o755)
@@ -110,11 +117,7 @@ class Room:
         if not real.exists():
             copy(self.folder / 'sources', real)
             (real / 'target').mkdir()
-            for name in ['bin', 'log', 'obj', 'stamp']:
-                copy(root / 'target' / name, real / 'target' / name)
-            (real / 'target' / 'rlib').mkdir()
-            for name in made_from('checker')[:-1]:
-                copy(root / 'target' / 'rlib' / f'{name}.rlib', real / 'target' / 'rlib')
+            copy(root / 'target' / 'bin', real / 'target' / 'bin')
         return real
 
     def place(self, repo):

@@ -8,8 +8,7 @@ before   what is done first. `says TEXT` has later builds make a program that pr
          reads; `wait_for COMMAND` tries until it succeeds
 builds   how often rt is called to build something
 after    what has to hold at the end, in bash
-kit      fake: stubs/rt in place of the kit's rt; none: there is no rt; real: the kit's own rt, and the copy of the real case before, which
-         has all that rt built
+kit      fake: stubs/rt and stubs/rattle in place of the kit's; none: there is no rt; real: the kit's own rt, and the copy of the real case before
 """
 import argparse
 import dataclasses
@@ -26,7 +25,7 @@ import time
 from room import made_from, remove, root
 
 SECONDS = 20
-SECONDS_REAL = 180
+SECONDS_REAL = 3600  # rt takes what it has kept on this machine, and else proves every crate
 PRELUDE = r'''
 says() {
     printf '#!/bin/sh\nprintf "%%b\\n" "%s"\n' "$1" > "$ROOM/other"
@@ -59,9 +58,9 @@ class Case:
 
 def sources_of(repo, crate):
     """What --version has to print for the sources: taken from its hash's definition, file by file."""
-    files = [repo / 'crates.txt']
+    files = [f for f in [repo / 'crates.txt', repo / 'HANDLES'] if f.exists()]
     for name in made_from(crate):
-        for part in ['src', 'specs', 'proofs', 'stdin', 'stdout', 'args', 'data']:
+        for part in ['src', 'specs', 'proofs', 'stdin', 'stdout', 'args', 'status', 'data']:
             files += [f for f in [repo / 'crates' / name / part, *(repo / 'crates' / name / part).rglob('*')] if f.is_file()]
     lines = sorted((str(f.relative_to(repo)), hashlib.sha256(f.read_bytes()).hexdigest()) for f in files)
     return hashlib.sha256(''.join(f'{digest}  {name}\n' for name, digest in lines).encode()).hexdigest()[:12]

@@ -4,8 +4,8 @@ import re
 
 from .text import read_code
 
-MARKS = r'((?:(?:unfoldable|abbrev|axiom|pub) )*)'
-HEADER = re.compile(r'^(?:unfoldable )?(?:pub )?use\s+(?:package\.)?([^\s{}]+?)(?:\.\{([^}]*)\})?(?:\s+as\s+(\S+))?[ \t]*$', re.M)
+MARKS = r'((?:(?:unfoldable|abbrev|opaque|axiom|pub) )*)'
+HEADER = re.compile(r'^(?:unfoldable )?(?:pub )?use\s+([^\s{}]+?)(?:\.\{([^}]*)\})?(?:\s+as\s+(\S+))?[ \t]*$', re.M)
 NO_SIGNATURE = {'=', 'use', 'mod', 'open', 'module', 'unfolding', 'infix', 'infixl', 'infixr', 'mutual', 'deriving'}
 
 
@@ -26,9 +26,8 @@ class Declaration:
 
 
 def module_of(root, file):
-    """A file's module as other crates name it."""
-    parts = file.relative_to(root / 'crates').with_suffix('').parts
-    return '.'.join([f'Rattle·{parts[0]}', *parts[1:]])
+    """A file's module, as any crate names it."""
+    return '.'.join(['Rattle', *file.relative_to(root / 'crates').with_suffix('').parts])
 
 
 def uses(code):
@@ -47,13 +46,13 @@ def uses(code):
 
 def spellings(name):
     """How a name is written at a use: as it is, and an operator also by its parts."""
-    return {name, *filter(None, name.split('_'))} if '_' in name and '«' not in name else {name}
+    return {name, *filter(None, name.split('◌'))} if '◌' in name and '«' not in name else {name}
 
 
 def whole(name, known):
-    """The whole path of a name; a crate names its own files by Rattle·NAME·specs.specs and Rattle·NAME·proofs.proofs."""
-    head, dot, rest = name.removeprefix('package.').partition('.')
-    return re.sub(r'^(Rattle·\w+)·(specs|proofs)\.\2\b', r'\1.\2', known.get(head, head) + dot + rest)
+    """The whole path of a name."""
+    head, dot, rest = name.partition('.')
+    return known.get(head, head) + dot + rest
 
 
 def members(code):
@@ -74,7 +73,7 @@ def members(code):
             held, opening = [blocks[-1][1:]], None
         held.append(line)
         text = '\n'.join(held[1:])
-        if m := re.match(rf'\s*{MARKS}(module|record|data|mutual)\b(?![·-])', text):
+        if m := re.match(rf"\s*{MARKS}(module|record|data|mutual)\b(?![·'-])", text):
             if m[2] == 'mutual' or re.search(r'\bwhere\s*$', text):
                 kind = held[0][0] if m[2] == 'mutual' else m[2]
                 opening = (blocks[-1][0], 'top' if kind == 'module' else kind, held[0][1] + (text if m[2] == 'module' else ''))

@@ -55,8 +55,9 @@ def check_statements(root, faults):
             for name in sorted(antt.named(law.context + ' ' + law.statement)):
                 if {antt.whole(name, known), f'{module}.{name}'} & inside:
                     faults.append(f'{where} states something by {name}, which is declared in proofs/')
+    crates = '|'.join(sorted(re.escape(folder.name) for folder in root.glob('crates/*')))
     for file in sorted(file for part in ('src/**/*.rt', 'specs/**/*.antt') for file in root.glob(f'crates/*/{part}')):
-        if by := re.search(r'Rattle·\w+(?:·proofs)?\.proofs\b[\w.]*', read_code(file)):
+        if by := re.search(rf'\bRattle\.(?:{crates})\.proofs\b[\w.]*', read_code(file)):
             faults.append(f'{file.relative_to(root)}: names {by[0]}; what a contract or a definition uses stands in specs/')
     return count
 

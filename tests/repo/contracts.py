@@ -2,7 +2,7 @@
 import re
 
 from . import antt, rattle
-from .edits import aside, changed, edits, has_definitions, libraries
+from .edits import aside, changed, edits, has_definitions, libraries, listed
 from .text import code_of, same_code
 
 
@@ -49,6 +49,36 @@ def faults_of(edit):
             yield f'there is no law {law} in {path}'
 
 
+def arguments(contract):
+    """The parameters' names, from a function's name to the end of its parameters."""
+    return re.findall(r'(\w+)\s*:(?!:)', contract[contract.index('('):contract.index(')')])
+
+
+def words_of(text):
+    """A text without its blanks, and without the comma that the layout puts behind the last parameter of a long list."""
+    return re.sub(r',(?=\))', '', re.sub(r'\s+', '', text))
+
+
+def check_exports(root, faults):
+    """A library for C exports functions that stand in a crate below it: under the same name, with the same contract, and by one call that hands
+    every argument on. Returns the function that each of them stands for."""
+    known = {f'{crate.name}::{f.called()}': f for crate in libraries(root) for f in rattle.functions(crate) if f.public}
+    stands_for = {}
+    for crate in libraries(root):
+        if 'staticlib' not in listed(root).get(crate.name, ([],))[0]:
+            continue
+        for f in rattle.functions(crate):
+            name, call = f'{crate.name}::{f.called()}', re.fullmatch(r'\{\s*(\w+)::(\w+)\(([^()]*)\)\s*\}', f.body)
+            own = call and known.get(f'{call[1]}::{call[2]}')
+            if not f.public or not own or f.name != own.name or words_of(f.contract) != words_of(own.contract):
+                faults.append(f'{name} is no call of a function below with its name and its contract')
+            elif [word.strip() for word in call[3].split(',') if word.strip()] != arguments(f.contract):
+                faults.append(f'{name} does not hand its arguments on as they are')
+            else:
+                stands_for[name] = f'{call[1]}::{own.called()}'
+    return stands_for
+
+
 def check_contracts(root, faults):
     guards = {True: set(), False: set()}  # by whether a definition is wrong or a program
     seen, alone, names = set(), set(), set()
@@ -74,9 +104,10 @@ def check_contracts(root, faults):
                 faults.append(f'{edit.where()} says not which public function it guards, or not why')
             faults.extend(f'{edit.where()}: {fault}' for fault in faults_of(edit))
             faults.extend(f'{edit.where()}: {name} has nothing to do with it' for name in aside(root, edit) if name in names)
+    stands_for = check_exports(root, faults)
     for name in sorted(names):
         for wrong, kind in ((True, 'definition'), (False, 'program')):
-            if name not in guards[wrong]:
+            if name not in guards[wrong] and not (wrong and stands_for.get(name) in guards[wrong]):
                 faults.append(f'{name} has no must-fail edit with a wrong {kind}')
     return len(names)
 

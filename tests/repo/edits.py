@@ -30,6 +30,12 @@ def has_definitions(crate):
     return (crate / 'specs').is_dir()
 
 
+def listed(root):
+    """The crates of crates.txt: the words behind a crate's name, and the names of what it depends on."""
+    lines = (line.partition('#')[0].partition(':') for line in (root / 'crates.txt').read_text().split('\n'))
+    return {head.split()[0]: (head.split()[1:], below.split()) for head, colon, below in lines if colon and head.strip()}
+
+
 def edits(crate):
     """Every wrong answer of a crate; one that is tried alone has its file's name."""
     for file in sorted(crate.glob('must-fail/*.edit')):
@@ -86,8 +92,7 @@ def aside(root, edit):
     """The functions that an edit names and cannot guard: those of a crate that does not stand above the wrong definition, or that do not call the
     wrong program, within its crate."""
     if has_definitions(edit.crate):
-        lines = (line.partition('#')[0].partition(':') for line in (root / 'crates.txt').read_text().split('\n'))
-        below = {name.strip(): crates.split() for name, _, crates in lines}
+        below = {name: crates for name, (_, crates) in listed(root).items()}
         return [name for name in edit.guarded() if edit.crate.name not in reached(name.split('::')[0], below)]
     calls = {}
     for f in rattle.functions(edit.crate):

@@ -31,10 +31,11 @@ def check_borders(root, faults):
         crate = file.relative_to(root / 'crates').parts[0]
         code = read_code(file)
         where = file.relative_to(root)
-        for name, law in sorted(set(re.findall(r'Rattle·(\w+)\.proofs\.(\w+)', code))):
-            if crate != f'{name}_code' and law in private.get(name, ()):
+        cited = re.findall(r'\bRattle\.(\w+)\.proofs\.(\w+)', code) + re.findall(r'\b(\w+)::proofs::(\w+)', code)
+        for name, law in sorted(set(cited)):
+            if crate not in (name, f'{name}_code') and law in private.get(name, ()):
                 faults.append(f'{where}: cites {law} of {name}, which is for {name}_code alone')
-        for line in re.findall(r'^.*\buse (?:package\.)?Rattle·\w+(?:\.(?:specs|proofs))?(?:;|\s.*|\.\{.*)?$', code, re.M):
+        for line in re.findall(r'^.*\buse Rattle(?:\.\w+(?:\.(?:specs|proofs))?)?(?:;|\s.*|\.\{.*)?$', code, re.M):
             faults.append(f'{where}: brings in a whole crate, so that it cannot be told what it cites: {line.strip()}')
         if file.suffix == '.antt' and (passed := re.search(r'^.*\bpub use .*', code, re.M)):
             faults.append(f'{where}: passes on what another file declares: {passed[0].strip()}')
@@ -53,7 +54,7 @@ def check_open(root, faults):
     for file in sorted(file for suffix in ('antt', 'rt') for file in root.glob(f'crates/*/*/**/*.{suffix}')):
         if file.relative_to(root / 'crates').parts[0] in ('prediction', 'prediction_code'):
             continue
-        code = re.sub(r'^ghost (use .*);', r'\1', read_code(file), flags=re.M)
+        code = re.sub(r'^ghost (use [^;]*);', r'\1', read_code(file), flags=re.M)
         known = antt.uses(code)
         for name in sorted({antt.whole(name, known) for name in [*known, *antt.words(code)]} & opened):
             if name.split('.')[-1] not in OPEN:
@@ -81,10 +82,15 @@ def check_unfolding(root, faults):
             if d.kind == 'law' and re.search(r'≡|≤|<|⊎|×', d.statement) and not antt.closed(d):
                 faults.append(f'{path}: {d.name} is a law over variables, in a file of worked examples')
         for d in declared if above else ():
-            names = {name for name in d.unfolded() if antt.whole(name, known).startswith('Rattle·prediction.specs.')}
+            names = {name for name in d.unfolded() if antt.whole(name, known).startswith('Rattle.prediction.specs.')}
             if not (path in WORKED and worked(d)):
                 faults.extend(f'{path}: {d.name} unfolds {name} of prediction' for name in sorted(names))
     for file in sorted(root.glob('crates/*/src/**/*.rt')):
-        if re.search(r'\bunfold(?:ing)?\b', read_code(file)):
+        code = read_code(file)
+        hints = re.findall(r'#!?\[tactic\b[^\]]*\]', code)
+        if re.search(r'\bunfold(?:ing)?\b', re.sub(r'#!?\[tactic\b[^\]]*\]', '', code)):
             faults.append(f'{file.relative_to(root)}: a contract unfolds a definition')
+        if file.relative_to(root / 'crates').parts[0] not in ('prediction', 'prediction_code'):
+            for name in sorted({name for hint in hints for name in re.findall(r'\bprediction::specs(?:::\w+)*', hint)}):
+                faults.append(f'{file.relative_to(root)}: a proof unfolds {name}, of prediction')
     return count

@@ -4,7 +4,11 @@ import re
 
 from .text import read_code
 
-FN = re.compile(r'^( *)((?:#\[[^\]\n]*\]\s*)*)(pub(?:\(crate\))? )?(?:extern "C" )?fn (\w+)', re.M)
+FN = re.compile(r'^( *)((?:#\[[^\]]*\]\s*)*)(pub(?:\(crate\))? )?(?:extern "C" )?fn (\w+)', re.M)
+
+
+# A module, or the methods of a type, which stands behind the trait that they may be of.
+BLOCK = re.compile(r'^ *(?:pub(?:\(crate\))? )?(?:mod (\w+)\s*\{|impl\b(?:\s*<[^{;\n]*?>)?\s+(?:[^{;\n]*?\bfor )?(?:\w+::)*(\w+)[^{;\n]*\{)', re.M)
 
 
 @dataclasses.dataclass
@@ -34,14 +38,14 @@ def closing(code, at):
 
 
 def body_of(code, at):
-    """The first brace behind a place that opens no contract."""
-    while (at := code.find('{', at)) >= 0 and re.search(r'\b(?:ensures|requires)\s*$', code[:at]):
+    """The first brace behind a place that opens no contract. A clause may have a name."""
+    while (at := code.find('{', at)) >= 0 and re.search(r'\b(?:ensures|requires)\*?(?:\s+\w+)?\s*\Z', code[max(0, at - 200):at]):
         at = closing(code, at)
     return at if at >= 0 else len(code)
 
 
 def functions_in(code, file, module):
-    blocks = [(m[1], m[2], m.start(), closing(code, m.end() - 1)) for m in re.finditer(r'^ *(?:pub )?(impl|mod) (\w+)[^;{\n]*\{', code, re.M)]
+    blocks = [('mod' if m[1] else 'impl', m[1] or m[2], m.start(), closing(code, m.end() - 1)) for m in BLOCK.finditer(code)]
     for m in FN.finditer(code):
         around = [(kind, name) for kind, name, start, end in blocks if start < m.start() < end]
         start = body_of(code, m.end())

@@ -8,24 +8,21 @@ use batch::Lengths;
 use interface::Summary;
 
 // How many words the lent memory has, for a caller that compares it with the size that it was compiled for.
-#[unsafe(no_mangle)]
-pub extern "C" fn hromulice_state_words() -> u64
+pub fn hromulice_state_words() -> u64
     ensures { result ≡ memory_words }
 {
     memory::WORDS as u64
 }
 
 // A check with four buffers of these lengths, before its first word.
-#[unsafe(no_mangle)]
-pub extern "C" fn hromulice_begin(lengths: Lengths, memory: &mut [u64; memory::WORDS])
+pub fn hromulice_begin(lengths: Lengths, memory: &mut [u64; memory::WORDS])
     ensures { MemoryBegun lengths memory.new }
 {
     *memory = memory_code::state_words(parts_code::begin(lengths));
 }
 
 // The next part. A check that has stopped leaves the memory as it is.
-#[unsafe(no_mangle)]
-pub extern "C" fn hromulice_hand_over(memory: &mut [u64; memory::WORDS], part: &[u32])
+pub fn hromulice_hand_over(memory: &mut [u64; memory::WORDS], part: &[u32])
     ensures { MemoryHanded memory.old part.now memory.new }
 {
     let state = memory_code::state_in(memory);
@@ -36,8 +33,7 @@ pub extern "C" fn hromulice_hand_over(memory: &mut [u64; memory::WORDS], part: &
 }
 
 // The answer to all words so far, taken as a whole batch.
-#[unsafe(no_mangle)]
-pub extern "C" fn hromulice_report_of(memory: &[u64; memory::WORDS]) -> Summary
+pub fn hromulice_report_of(memory: &[u64; memory::WORDS]) -> Summary
     ensures { result ≡ summary_in memory.now }
 {
     let state = memory_code::state_in(memory);

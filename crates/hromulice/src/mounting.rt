@@ -64,16 +64,14 @@ fn mount_shift_of(turned: Turned) -> MountShift
 }
 
 // The boat's newest sheet not above the edition, among so many stored sheets.
-#[unsafe(no_mangle)]
-pub extern "C" fn hromulice_ask_mount(sheets: &[u8], count: u64, boat: u32, edition: u32) -> Mount
+pub fn hromulice_ask_mount(sheets: &[u8], count: u64, boat: u32, edition: u32) -> Mount
     ensures { MountAsked sheets.now count boat edition result }
 {
     mount_of(mounts_code::ask(sheets, count, boat, edition))
 }
 
 // Adds a sheet behind so many stored ones.
-#[unsafe(no_mangle)]
-pub extern "C" fn hromulice_add_mount(
+pub fn hromulice_add_mount(
     sheets: &mut [u8],
     count: u64,
     boat: u32,
@@ -86,8 +84,7 @@ pub extern "C" fn hromulice_add_mount(
 }
 
 // The vector of a measured shift on a side.
-#[unsafe(no_mangle)]
-pub extern "C" fn hromulice_mount_vector(side: u32, x: i16, y: i16) -> MountShift
+pub fn hromulice_mount_vector(side: u32, x: i16, y: i16) -> MountShift
     ensures { MountTurned side x y result }
 {
     mount_shift_of(mounts_code::turn(side, Shift { x, y }))

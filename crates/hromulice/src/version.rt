@@ -9,8 +9,7 @@ const MINOR: u32 = 1;
 const PATCH: u32 = 1;
 
 // The version as one number, for a caller that compares it with the version that it was compiled for.
-#[unsafe(no_mangle)]
-pub extern "C" fn hromulice_version() -> u32
+pub fn hromulice_version() -> u32
     ensures { result ≡ version_number library_version }
 {
     MAJOR * 65536 + MINOR * 256 + PATCH

@@ -39,7 +39,7 @@
 //!
 //! # Building
 //!
-//! `rt staticlib hromulice` at the root of the repository proves the checker and writes `target/staticlib/libhromulice.a`,
+//! `tests/build library` at the root of the repository proves the checker and writes `target/staticlib/libhromulice.a`,
 //! where this crate looks for it. The variable `HROMULICE_LIB_DIR` names another directory.
 
 #![no_std]
