@@ -29,8 +29,8 @@ def faults_of(edit):
     if not edit.changes or any(not where.startswith(folder) for where, _, _ in edit.changes):
         yield f'a wrong answer of this crate changes a text in {folder}, in a file that it names'
         return
-    texts, _ = changed(edit.crate, edit.changes)
-    for where, old, _ in edit.changes:
+    for n, (where, old, _) in enumerate(edit.changes):
+        _, texts = changed(edit.crate, edit.changes[:n] + [(where, '', '')])  # rt applies each to what the earlier ones made
         if texts.get(where, '').count(old) != 1:
             yield f'does not stand once in {where}: {old.strip()}'
             return

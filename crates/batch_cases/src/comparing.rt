@@ -3,11 +3,11 @@ ghost use Rattle.std.specs.Prelude.{◌≤◌, length};
 
 use crate::printing;
 use batch::{Lengths, Report, Reported};
-use libc::STDOUT_FILENO;
 use parts::State;
+use std::io;
 
 // A report as numbers: its sort (0 accepted, 1 short, 2 refused), number, place and what is reported, 0 where it has none.
-#[derive(Drop)]
+#[derive(Clone, Copy)]
 struct Numbers {
     sort: u8,
     number: u8,
@@ -44,17 +44,7 @@ fn numbers_of(report: Report) -> Numbers {
 }
 
 fn same_values(a: &[u64], b: &[u64]) -> bool {
-    if a.len() != b.len() {
-        return false;
-    }
-    let mut i = 0;
-    while i < a.len() {
-        if a[i] != b[i] {
-            return false;
-        }
-        i += 1;
-    }
-    true
+    *a == *b
 }
 
 fn same(a: Numbers, b: Numbers) -> bool {
@@ -87,33 +77,31 @@ fn hand_word(state: State, word: u32) -> State {
 
 fn word_by_word(words: &[u32], lengths: Lengths) -> Report {
     let mut state = parts_code::begin(lengths);
-    let mut i = 0;
-    while i < words.len() {
-        state = hand_word(state, words[i]);
-        i += 1;
+    for word in words {
+        state = hand_word(state, *word);
     }
     parts_code::answer(state)
 }
 
-fn compare_cuts(words: &[u32], lengths: Lengths, whole: Numbers) {
-    let mut cut = 0;
-    loop {
+fn compare_cuts(
+    rt: &impl Print,
+    words: &[u32],
+    lengths: Lengths,
+    whole: Numbers,
+) -> io::Result<()> {
+    for cut in 0..=words.len() {
         if !same(whole, numbers_of(in_two(words, cut, lengths))) {
-            printing::print_cut(cut);
-            return;
+            return printing::print_cut(rt, cut);
         }
-        if cut == words.len() {
-            return;
-        }
-        cut += 1;
     }
+    Ok(())
 }
 
 // Word by word, and in two parts at every cut up to the first that differs.
-pub fn compare(words: &[u32], lengths: Lengths, report: Report) {
+pub fn compare(rt: &impl Print, words: &[u32], lengths: Lengths, report: Report) -> io::Result<()> {
     let whole = numbers_of(report);
     if !same(whole, numbers_of(word_by_word(words, lengths))) {
-        io::write_all(STDOUT_FILENO, b" differs word by word");
+        print!(rt; " differs word by word")?;
     }
-    compare_cuts(words, lengths, whole);
+    compare_cuts(rt, words, lengths, whole)
 }

@@ -1,38 +1,40 @@
 // Decoding a batch into a lent log, and printing what it holds afterwards.
 use crate::printing;
 use batch::Lengths;
-use libc::STDOUT_FILENO;
+use std::io;
 
 // What the log holds before: byte i is 37·i + 11, modulo 256.
 fn fill(log: &mut [u8]) {
-    let mut byte: u32 = 11;
-    let mut i = 0;
-    while i < log.len() {
-        log[i] = byte as u8;
-        byte = (byte + 37) % 256;
-        i += 1;
+    let mut byte: u8 = 11;
+    for b in log {
+        *b = byte;
+        byte = byte.wrapping_add(37);
     }
 }
 
-fn print_byte(byte: u8) {
-    io::print_hex(STDOUT_FILENO, byte as u64, 2);
+fn print_byte(rt: &impl Print, byte: u8) -> io::Result<()> {
+    print!(rt; "{byte:02x}")
 }
 
-fn print_log(log: &[u8]) {
-    io::write_all(STDOUT_FILENO, b" ");
+fn print_log(rt: &impl Print, log: &[u8]) -> io::Result<()> {
+    print!(rt; " ")?;
     if log.len() == 0 {
-        io::write_all(STDOUT_FILENO, b"-");
+        print!(rt; "-")?;
     }
-    let mut i = 0;
-    while i < log.len() {
-        print_byte(log[i]);
-        i += 1;
+    for byte in log {
+        print_byte(rt, *byte)?;
     }
+    Ok(())
 }
 
 // Prints the report and the whole log afterwards, with no line end.
-pub fn print_decoded(words: &[u32], lengths: Lengths, log: &mut [u8]) {
+pub fn print_decoded(
+    rt: &impl Print,
+    words: &[u32],
+    lengths: Lengths,
+    log: &mut [u8],
+) -> io::Result<()> {
     fill(log);
-    printing::print_report(decoding_code::decode(words, lengths, log));
-    print_log(log);
+    printing::print_report(rt, decoding_code::decode(words, lengths, log))?;
+    print_log(rt, log)
 }

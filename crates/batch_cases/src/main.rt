@@ -14,16 +14,22 @@ mod reading;
 ghost use Rattle.std.specs.Prelude.{◌≡◌, length};
 
 use batch::Lengths;
-use libc::STDOUT_FILENO;
 use reading::Head;
+use std::io;
+use std::io::Read;
 
 // Decodes into the first bytes of a log.
-fn decode(words: &[u32], lengths: Lengths, log: &mut [u8], bytes: usize) {
+fn decode(
+    rt: &impl Print,
+    words: &[u32],
+    lengths: Lengths,
+    log: &mut [u8],
+    bytes: usize,
+) -> io::Result<()> {
     if log.len() < bytes {
-        io::write_all(STDOUT_FILENO, b"log too long");
-        return;
+        return print!(rt; "log too long");
     }
-    logging::print_decoded(words, lengths, &mut log[..bytes]);
+    logging::print_decoded(rt, words, lengths, &mut log[..bytes])
 }
 
 // Room for the longest stored log. A call, so that no proof meets 2000 zeros.
@@ -34,43 +40,49 @@ fn most_bytes() -> [u8; 2000]
 }
 
 // Prints the line of a batch. Where an answer in parts is another, more stands behind it, so that the line is not the one due.
-fn print_line(words: &[u32], lengths: Lengths, lent: u32) {
+fn print_line(rt: &impl Print, words: &[u32], lengths: Lengths, lent: u32) -> io::Result<()> {
     let whole = batch_code::check(words, lengths);
     if lent == 0 {
-        printing::print_report(whole);
+        printing::print_report(rt, whole)?;
     } else {
         let mut log = most_bytes();
-        decode(words, lengths, &mut log, (lent - 1) as usize);
+        decode(rt, words, lengths, &mut log, (lent - 1) as usize)?;
     }
-    comparing::compare(words, lengths, whole);
-    io::write_all(STDOUT_FILENO, b"\n");
+    comparing::compare(rt, words, lengths, whole)?;
+    println!(rt)
 }
 
 // Ends the run at input that is no case.
-fn bad_input() -> bool {
-    io::write_all(STDOUT_FILENO, b"bad input\n");
-    false
+fn bad_input(rt: &impl Print) -> io::Result<bool> {
+    println!(rt; "bad input")?;
+    Ok(false)
 }
 
 // Runs a case whose words are next, into this room that they fill, and answers whether they were there.
-fn run_case(room: &mut [u32], lengths: Lengths, lent: u32) -> bool {
-    if !reading::read_words(room) {
-        return bad_input();
+fn run_case(
+    rt: &impl Print,
+    input: &mut impl Read,
+    room: &mut [u32],
+    lengths: Lengths,
+    lent: u32,
+) -> io::Result<bool> {
+    if !reading::read_words(input, room)? {
+        return bad_input(rt);
     }
-    print_line(room, lengths, lent);
-    true
+    print_line(rt, room, lengths, lent)?;
+    Ok(true)
 }
 
 // Runs the next case, with room for the words of any, and answers whether there was one.
-fn next_case(room: &mut [u32]) -> bool {
-    match reading::read_head() {
-        Head::End => false,
-        Head::Bad => bad_input(),
+fn next_case(rt: &impl Print, input: &mut impl Read, room: &mut [u32]) -> io::Result<bool> {
+    match reading::read_head(input)? {
+        Head::End => Ok(false),
+        Head::Bad => bad_input(rt),
         Head::Case(n, lengths, lent) => {
             if room.len() < n {
-                return bad_input();
+                return bad_input(rt);
             }
-            run_case(&mut room[..n], lengths, lent)
+            run_case(rt, input, &mut room[..n], lengths, lent)
         }
     }
 }
@@ -82,10 +94,13 @@ fn most_words() -> [u32; 2000]
     [0u32; 2000]
 }
 
-fn main() {
+fn main(rt: HostRuntime) -> io::Result<()> {
+    let mut input = rt.stdin();
     let mut room = most_words();
-    let mut left: u32 = 100000;
-    while left > 0 && next_case(&mut room) {
-        left -= 1;
+    for _ in 0..100000u32 {
+        if !next_case(&rt, &mut input, &mut room)? {
+            break;
+        }
     }
+    Ok(())
 }

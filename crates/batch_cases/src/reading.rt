@@ -1,9 +1,10 @@
 // Reading cases from standard input.
 use batch::Lengths;
-use libc::STDIN_FILENO;
+use std::io;
+use std::io::Read;
 
 // What reading a word came to: the word, no byte more, or less than a word.
-#[derive(Drop)]
+#[derive(Clone, Copy)]
 enum Got {
     Word(u32),
     Nothing,
@@ -11,36 +12,47 @@ enum Got {
 }
 
 // What is next: a case with its count of words, its lengths and what stands before its words; the end of the input; or neither.
-#[derive(Drop)]
+#[derive(Clone, Copy)]
 pub enum Head {
     Case(usize, Lengths, u32),
     End,
     Bad,
 }
 
-fn read_word() -> Got {
+// Reads until the buffer is full or the input ends, and answers how many bytes it read.
+fn read_full(input: &mut impl Read, buffer: &mut [u8]) -> io::Result<usize> {
+    let mut done = 0;
+    while done < buffer.len() {
+        let got = input.read(&mut buffer[done..])?;
+        if got == 0 {
+            break;
+        }
+        done += got;
+    }
+    Ok(done)
+}
+
+fn read_word(input: &mut impl Read) -> io::Result<Got> {
     let mut bytes = [0u8; 4];
-    let got = io::read_full(STDIN_FILENO, &mut bytes);
+    let got = read_full(input, &mut bytes)?;
     if got == 0 {
-        return Got::Nothing;
+        return Ok(Got::Nothing);
     }
     if got < 4 {
-        return Got::Part;
+        return Ok(Got::Part);
     }
-    Got::Word(fields_code::number32(bytes[0], bytes[1], bytes[2], bytes[3]))
+    Ok(Got::Word(fields_code::number32(bytes[0], bytes[1], bytes[2], bytes[3])))
 }
 
 // Fills the words from the input and answers whether there were as many.
-pub fn read_words(words: &mut [u32]) -> bool {
-    let mut i = 0;
-    while i < words.len() {
-        let Got::Word(word) = read_word() else {
-            return false;
+pub fn read_words(input: &mut impl Read, words: &mut [u32]) -> io::Result<bool> {
+    for room in words {
+        let Got::Word(word) = read_word(input)? else {
+            return Ok(false);
         };
-        words[i] = word;
-        i += 1;
+        *room = word;
     }
-    true
+    Ok(true)
 }
 
 fn number64(low: u32, high: u32) -> u64 {
@@ -57,19 +69,19 @@ fn lengths_of(halves: &[u32; 8]) -> Lengths {
     }
 }
 
-pub fn read_head() -> Head {
-    match read_word() {
-        Got::Nothing => Head::End,
-        Got::Part => Head::Bad,
+pub fn read_head(input: &mut impl Read) -> io::Result<Head> {
+    match read_word(input)? {
+        Got::Nothing => Ok(Head::End),
+        Got::Part => Ok(Head::Bad),
         Got::Word(n) => {
             let mut halves = [0u32; 8];
-            if !read_words(&mut halves) {
-                return Head::Bad;
+            if !read_words(input, &mut halves)? {
+                return Ok(Head::Bad);
             }
-            let Got::Word(lent) = read_word() else {
-                return Head::Bad;
+            let Got::Word(lent) = read_word(input)? else {
+                return Ok(Head::Bad);
             };
-            Head::Case(n as usize, lengths_of(&halves), lent)
+            Ok(Head::Case(n as usize, lengths_of(&halves), lent))
         }
     }
 }

@@ -2,52 +2,55 @@
 // what is printed for it: the crate `input`.
 #![tactic(auto)]
 
-ghost use Rattle.std.specs.Prelude.{◌≤◌};
+ghost use Rattle.std.specs.Prelude.{◌≡◌, ◌≤◌, length};
 
 use input::OutputLine;
-use libc::{STDERR_FILENO, STDIN_FILENO, STDOUT_FILENO};
+use std::io::Read;
 
-fn cannot_read() {
-    io::write_all(STDERR_FILENO, b"checker: cannot read standard input\n");
+// Where standard error cannot be written either, nothing is left to say it on.
+fn cannot_read(rt: &impl Eprint) {
+    let _ = rt.eprintln("checker: cannot read standard input");
 }
 
-fn cannot_write() {
-    io::write_all(STDERR_FILENO, b"checker: cannot write to standard output\n");
+fn cannot_write(rt: &impl Eprint) {
+    let _ = rt.eprintln("checker: cannot write to standard output");
 }
 
-fn print(line: OutputLine)
+fn print(rt: &(impl Print + Eprint), line: OutputLine)
     requires { line.len ≤ 256 }
 {
     let bytes = line.bytes;
     let n = line.len;
-    if !io::write_all(STDOUT_FILENO, &bytes[..n]) {
-        cannot_write();
+    if rt.write_all(&bytes[..n]).is_err() {
+        cannot_write(rt);
     }
 }
 
 // Reads to the end of the input, a buffer at a time, and prints the line. A loop that is proved has to end, and nothing says that an
-// input does: it counts its turns down from a number that no run uses up.
-fn run(buffer: &mut [u8]) {
+// input does: it counts its turns up to a number that no run reaches.
+fn run(rt: &(impl Print + Eprint), source: &mut impl Read, buffer: &mut [u8]) {
     let mut input = input_code::begin();
-    let mut turns = u64::MAX;
-    while 0 < turns {
-        let got = libc::read(STDIN_FILENO, buffer);
-        if got < 0 {
-            cannot_read();
+    for _ in 0..u64::MAX {
+        let Ok(n) = source.read(buffer) else {
+            break;
+        };
+        if n == 0 {
+            print(rt, input_code::answer(input));
             return;
         }
-        if got == 0 {
-            print(input_code::answer(input));
-            return;
-        }
-        let n = io::count(got, buffer);
         input = input_code::hand_over(input, &buffer[..n]);
-        turns -= 1;
     }
-    cannot_read();
+    cannot_read(rt);
 }
 
-fn main() {
-    let mut buffer = io::large_buffer();
-    run(&mut buffer);
+// A call, so that no proof meets 65536 zeros.
+fn large_buffer() -> [u8; 65536]
+    ensures { 65536 ≡ length result }
+{
+    [0u8; 65536]
+}
+
+fn main(rt: HostRuntime) {
+    let mut buffer = large_buffer();
+    run(&rt, &mut rt.stdin(), &mut buffer);
 }

@@ -7,154 +7,145 @@
 
 use answers::Answer;
 use headers::{Header, Opcode};
-use libc::{STDIN_FILENO, STDOUT_FILENO};
+use std::io;
+use std::io::{ErrorKind, Read};
 
-fn print_name(opcode: Opcode) {
+fn print_name(rt: &impl Print, opcode: Opcode) -> io::Result<()> {
     match opcode {
-        Opcode::Noop => io::write_all(STDOUT_FILENO, b"NOOP "),
-        Opcode::End => io::write_all(STDOUT_FILENO, b"END "),
-        Opcode::Surface => io::write_all(STDOUT_FILENO, b"SURFACE "),
-        Opcode::Picture => io::write_all(STDOUT_FILENO, b"PICTURE "),
-        Opcode::SliceGroup => io::write_all(STDOUT_FILENO, b"SLICEGROUP "),
-        Opcode::Macroblock => io::write_all(STDOUT_FILENO, b"MACROBLOCK "),
-    };
+        Opcode::Noop => print!(rt; "NOOP "),
+        Opcode::End => print!(rt; "END "),
+        Opcode::Surface => print!(rt; "SURFACE "),
+        Opcode::Picture => print!(rt; "PICTURE "),
+        Opcode::SliceGroup => print!(rt; "SLICEGROUP "),
+        Opcode::Macroblock => print!(rt; "MACROBLOCK "),
+    }
 }
 
-fn header_case(word: u32) {
-    io::write_all(STDOUT_FILENO, b"header ");
-    print_hex(word, 8);
-    io::write_all(STDOUT_FILENO, b" ");
-    let header = headers_code::read_header(word);
-    match header {
+fn header_case(rt: &impl Print, word: u32) -> io::Result<()> {
+    print!(rt; "header {word:08x} ")?;
+    match headers_code::read_header(word) {
         Header::Known(opcode, count) => {
-            print_name(opcode);
-            io::print_decimal(STDOUT_FILENO, count as u64);
+            print_name(rt, opcode)?;
+            println!(rt; "{count}")
         }
-        Header::Carried(count) => {
-            io::write_all(STDOUT_FILENO, b"carried ");
-            io::print_decimal(STDOUT_FILENO, count as u64);
-        }
-        Header::Unknown => {
-            io::write_all(STDOUT_FILENO, b"none");
-        }
+        Header::Carried(count) => println!(rt; "carried {count}"),
+        Header::Unknown => println!(rt; "none"),
     }
-    io::write_all(STDOUT_FILENO, b"\n");
 }
 
-fn print_answer(answer: Answer) {
+fn print_answer(rt: &impl Print, answer: Answer) -> io::Result<()> {
     match answer {
-        Answer::Accepted => {
-            io::write_all(STDOUT_FILENO, b"0 0 ");
-        }
-        Answer::Refused(number, place) => {
-            io::print_decimal(STDOUT_FILENO, number as u64);
-            io::write_all(STDOUT_FILENO, b" ");
-            io::print_decimal(STDOUT_FILENO, place);
-            io::write_all(STDOUT_FILENO, b" ");
-        }
+        Answer::Accepted => print!(rt; "0 0 "),
+        Answer::Refused(number, place) => print!(rt; "{number} {place} "),
     }
 }
 
-fn print_hex(number: u32, digits: usize) {
-    io::print_hex(STDOUT_FILENO, number as u64, digits);
-}
-
-fn print_byte(byte: u8) {
-    print_hex(byte as u32, 2);
-}
-
-fn print_bytes(room: &[u8]) {
-    let mut i = 0;
-    while i < room.len() {
-        print_byte(room[i]);
-        i += 1;
+fn print_bytes(rt: &impl Print, room: &[u8]) -> io::Result<()> {
+    for byte in room {
+        print!(rt; "{byte:02x}")?;
     }
-    io::write_all(STDOUT_FILENO, b"\n");
+    println!(rt)
 }
 
-fn print_words(room: &[u32]) {
-    let mut i = 0;
-    while i < room.len() {
-        print_hex(room[i], 8);
-        i += 1;
+fn print_words(rt: &impl Print, room: &[u32]) -> io::Result<()> {
+    for word in room {
+        print!(rt; "{word:08x}")?;
     }
-    io::write_all(STDOUT_FILENO, b"\n");
+    println!(rt)
 }
 
 // The words that a case hands in, and zeros after them.
 fn words_in(case: &[u8; 52]) -> [u32; 12] {
     let mut words = [0u32; 12];
-    let mut i = 0;
-    while i < 12 {
+    for i in 0..12usize {
         let at = 4 + 4 * i;
         words[i] = fields_code::number32(case[at], case[at + 1], case[at + 2], case[at + 3]);
-        i += 1;
     }
     words
 }
 
-fn read_alone(words: &[u32], room: &mut [u8]) {
-    io::write_all(STDOUT_FILENO, b"read ");
-    print_answer(records_code::read_command(words, room));
-    print_bytes(room);
+fn read_alone(rt: &impl Print, words: &[u32], room: &mut [u8]) -> io::Result<()> {
+    print!(rt; "read ")?;
+    print_answer(rt, records_code::read_command(words, room))?;
+    print_bytes(rt, room)
 }
 
-fn command_case(given: u8, lent: u8, before: u8, words: [u32; 12]) {
+fn command_case(
+    rt: &impl Print,
+    given: u8,
+    lent: u8,
+    before: u8,
+    words: [u32; 12],
+) -> io::Result<()> {
     let count = given as usize;
     let bytes = lent as usize;
     let mut room = [before; 32];
     if count > 12 {
-        return;
+        return Ok(());
     }
     if bytes > 32 {
-        return;
+        return Ok(());
     }
-    read_alone(&words[..count], &mut room[..bytes]);
+    read_alone(rt, &words[..count], &mut room[..bytes])
 }
 
-fn write_alone(bytes: &[u8], room: &mut [u32]) {
-    io::write_all(STDOUT_FILENO, b"write ");
-    print_answer(records_code::write_command(bytes, room));
-    print_words(room);
+fn write_alone(rt: &impl Print, bytes: &[u8], room: &mut [u32]) -> io::Result<()> {
+    print!(rt; "write ")?;
+    print_answer(rt, records_code::write_command(bytes, room))?;
+    print_words(rt, room)
 }
 
-fn record_case(given: u8, lent: u8, before: u8, bytes: &[u8]) {
+fn record_case(rt: &impl Print, given: u8, lent: u8, before: u8, bytes: &[u8]) -> io::Result<()> {
     let count = given as usize;
     let words = lent as usize;
     let filler = fields_code::number32(before, before, before, before);
     let mut room = [filler; 12];
     if count > bytes.len() {
-        return;
+        return Ok(());
     }
     if words > 12 {
-        return;
+        return Ok(());
     }
-    write_alone(&bytes[..count], &mut room[..words]);
+    write_alone(rt, &bytes[..count], &mut room[..words])
+}
+
+// Fills the buffer from the input, and answers whether that has as many bytes.
+fn is_read(input: &mut impl Read, buffer: &mut [u8]) -> io::Result<bool> {
+    match input.read_exact(buffer) {
+        Ok(()) => Ok(true),
+        Err(e) if e.kind() == ErrorKind::UnexpectedEof => Ok(false),
+        Err(e) => Err(e),
+    }
 }
 
 // Runs the next case and answers whether there was one.
-fn next_case() -> bool {
+fn next_case(rt: &impl Print, input: &mut impl Read) -> io::Result<bool> {
     let mut case = [0u8; 52];
-    let got = io::read_full(STDIN_FILENO, &mut case);
-    if got < 52 {
-        return false;
+    if !is_read(input, &mut case)? {
+        return Ok(false);
     }
     let sort = case[0];
     if sort == 0 {
-        header_case(fields_code::number32(case[4], case[5], case[6], case[7]));
+        header_case(
+            rt,
+            fields_code::number32(case[4], case[5], case[6], case[7]),
+        )?;
     }
     if sort == 1 {
-        command_case(case[1], case[2], case[3], words_in(&case));
+        command_case(rt, case[1], case[2], case[3], words_in(&case))?;
     }
     if sort == 2 {
-        record_case(case[1], case[2], case[3], &case[4..]);
+        record_case(rt, case[1], case[2], case[3], &case[4..])?;
     }
-    true
+    Ok(true)
 }
 
-fn main() {
-    let mut left: u32 = 100000;
-    while left > 0 && next_case() {
-        left -= 1;
+fn main(rt: HostRuntime) -> io::Result<()> {
+    let mut input = rt.stdin();
+    for _ in 0..100000u32 {
+        if !next_case(&rt, &mut input)? {
+            break;
+        }
     }
+    Ok(())
 }

@@ -1,5 +1,4 @@
 -- for this crate alone
-mod Copying
 mod Endings
 mod HeldBytes
 mod Lines

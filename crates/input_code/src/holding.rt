@@ -24,7 +24,7 @@ pub(crate) fn append(bytes: [u8; 32], from: usize, piece: &[u8]) -> [u8; 32]
     ensures { (take (from + length piece.now) result ≡ take from bytes ++ piece.now) × (length result ≡ 32) }
 {
     let mut b = bytes;
-    bytes::copy(piece, &mut b[from..]);
+    b[from..from + piece.len()].copy_from_slice(piece);
     b
 }
 

@@ -14,8 +14,8 @@ fn put(line: OutputLine, text: &[u8]) -> OutputLine
 {
     let mut bytes = line.bytes;
     let at = line.len;
-    bytes::copy(text, &mut bytes[at..]);
     let len = at + text.len();
+    bytes[at..len].copy_from_slice(text);
     OutputLine { bytes, len }
 }
 

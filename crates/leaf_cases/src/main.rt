@@ -8,45 +8,36 @@
 // lines that are due.
 #![tactic(auto)]
 
-use libc::{STDIN_FILENO, STDOUT_FILENO};
-use prediction::{Block, Extent, Grid, Position, Structure, Surface};
+use prediction::{Block, Grid, Position, Structure, Surface};
 use prediction_code::extents;
+use std::io;
+use std::io::{ErrorKind, Read};
 
-fn fields_case(case: &[u8; 24]) {
+fn fields_case(rt: &impl Print, case: &[u8; 24]) -> io::Result<()> {
     let hi = case[2];
     let lo = case[3];
     let word = fields_code::number32(case[4], case[5], case[6], case[7]);
     let value = fields_code::number32(case[16], case[17], case[18], case[19]);
-    io::print_hex(STDOUT_FILENO, fields_code::bits(word, hi, lo) as u64, 8);
-    io::write_all(STDOUT_FILENO, b" ");
-    io::print_hex(
-        STDOUT_FILENO,
-        fields_code::with_bits(word, hi, lo, value) as u64,
-        8,
-    );
-    io::write_all(STDOUT_FILENO, b"\n");
+    let bits = fields_code::bits(word, hi, lo);
+    let changed = fields_code::with_bits(word, hi, lo, value);
+    println!(rt; "{bits:08x} {changed:08x}")
 }
 
-fn print_label(label: u8) {
+fn print_label(rt: &impl Print, label: u8) -> io::Result<()> {
     if label != 0 {
-        io::write_all(STDOUT_FILENO, b"P");
-        io::print_decimal(STDOUT_FILENO, label as u64);
-        io::write_all(STDOUT_FILENO, b" ");
+        print!(rt; "P{label} ")?;
     }
+    Ok(())
 }
 
-fn print_block(block: Block) {
+fn print_block(rt: &impl Print, block: Block) -> io::Result<()> {
     match block {
-        Block::Outside => {
-            io::write_all(STDOUT_FILENO, b"outside\n");
-        }
+        Block::Outside => println!(rt; "outside"),
         Block::Inside(extent) => {
-            io::write_all(STDOUT_FILENO, b"inside ");
             let touched = extents::join(extents::empty(), extent);
-            io::print_decimal(STDOUT_FILENO, touched.end);
-            io::write_all(STDOUT_FILENO, b" ");
-            io::print_decimal(STDOUT_FILENO, touched.first);
-            io::write_all(STDOUT_FILENO, b"\n");
+            let end = touched.end;
+            let first = touched.first;
+            println!(rt; "inside {end} {first}")
         }
     }
 }
@@ -59,7 +50,7 @@ fn structure_of(number: u8) -> Structure {
     }
 }
 
-fn block_case(case: &[u8; 24]) {
+fn block_case(rt: &impl Print, case: &[u8; 24]) -> io::Result<()> {
     let chroma_row = fields_code::number16(case[2], case[3]);
     let pitch = fields_code::number32(case[4], case[5], case[6], case[7]);
     let columns = fields_code::number16(case[8], case[9]);
@@ -67,40 +58,55 @@ fn block_case(case: &[u8; 24]) {
     let column = fields_code::number16(case[12], case[13]);
     let row = fields_code::number16(case[14], case[15]);
     let structure = structure_of(case[1]);
-    print_label(case[22]);
+    print_label(rt, case[22])?;
     let vector = prediction_code::vector_of(fields_code::number32(
         case[16], case[17], case[18], case[19],
     ));
-    io::print_hex(STDOUT_FILENO, prediction_code::word_of(vector) as u64, 8);
+    let word = prediction_code::word_of(vector);
+    print!(rt; "{word:08x}")?;
     if prediction_code::vector_in_range(structure, vector, case[20], case[21]) {
-        io::write_all(STDOUT_FILENO, b" range ");
+        print!(rt; " range ")?;
     } else {
-        io::write_all(STDOUT_FILENO, b" beyond ");
+        print!(rt; " beyond ")?;
     }
     let surface = Surface { pitch, chroma_row };
     let grid = Grid { columns, rows };
     let position = Position { column, row };
-    print_block(prediction_code::block_at(structure, surface, grid, position, vector));
+    print_block(
+        rt,
+        prediction_code::block_at(structure, surface, grid, position, vector),
+    )
+}
+
+// Fills the buffer from the input, and answers whether that has as many bytes.
+fn is_read(input: &mut impl Read, buffer: &mut [u8]) -> io::Result<bool> {
+    match input.read_exact(buffer) {
+        Ok(()) => Ok(true),
+        Err(e) if e.kind() == ErrorKind::UnexpectedEof => Ok(false),
+        Err(e) => Err(e),
+    }
 }
 
 // Runs the next case and answers whether there was one.
-fn next_case() -> bool {
+fn next_case(rt: &impl Print, input: &mut impl Read) -> io::Result<bool> {
     let mut case = [0u8; 24];
-    let got = io::read_full(STDIN_FILENO, &mut case);
-    if got < 24 {
-        return false;
+    if !is_read(input, &mut case)? {
+        return Ok(false);
     }
     if case[0] == 0 {
-        fields_case(&case);
+        fields_case(rt, &case)?;
     } else {
-        block_case(&case);
+        block_case(rt, &case)?;
     }
-    true
+    Ok(true)
 }
 
-fn main() {
-    let mut left: u32 = 100000;
-    while left > 0 && next_case() {
-        left -= 1;
+fn main(rt: HostRuntime) -> io::Result<()> {
+    let mut input = rt.stdin();
+    for _ in 0..100000u32 {
+        if !next_case(&rt, &mut input)? {
+            break;
+        }
     }
+    Ok(())
 }

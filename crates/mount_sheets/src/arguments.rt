@@ -1,10 +1,11 @@
 // The program's arguments.
-ghost use Rattle.std.specs.Prelude.{◌≤◌};
+ghost use Rattle.std.specs.Prelude.{◌≤◌, length};
 
-use libc::STDERR_FILENO;
+use crate::failing;
+use std::env::{Env, FillError};
 
 // What is to be done with the file.
-#[derive(Drop)]
+#[derive(Clone, Copy)]
 pub enum Command {
     Ask,
     Add,
@@ -14,48 +15,65 @@ pub enum Command {
 }
 
 // The number that an argument gives, if it gives one.
-#[derive(Drop)]
+#[derive(Clone, Copy)]
 pub enum Number {
     Is(u32),
     Missing,
 }
 
-#[derive(Drop)]
+#[derive(Clone, Copy)]
 pub enum Signed {
     Is(i16),
     Missing,
 }
 
-pub fn refuse() {
-    io::write_all(
-        STDERR_FILENO,
-        b"mount_sheets: the arguments are FILE ask BOAT EDITION, FILE add BOAT EDITION SIDE, FILE list [BOAT] or shift SIDE X Y\n",
+pub fn refuse(rt: &impl Eprint) {
+    failing::say(
+        rt,
+        "the arguments are FILE ask BOAT EDITION, FILE add BOAT EDITION SIDE, FILE list [BOAT] or shift SIDE X Y",
     );
 }
 
+fn is_given(rt: &impl Env, i: usize) -> bool {
+    !matches!(rt.arg(i, &mut []), Err(FillError::NotPresent))
+}
+
+// Whether argument i is the last.
+pub fn is_last(rt: &impl Env, i: usize) -> bool
+    requires { i ≤ 5 }
+{
+    is_given(rt, i) && !is_given(rt, i + 1)
+}
+
+// Puts argument i at the start of the room, and answers how long it is: 0 where it is missing, or longer than the room.
+fn argument_in(rt: &impl Env, i: usize, room: &mut [u8]) -> usize
+    ensures { result ≤ length room.new }
+{
+    rt.arg(i, room).unwrap_or(0)
+}
+
 // Whether argument i is this word, which has at most 8 letters.
-fn is_word(i: usize, word: &[u8]) -> bool {
+fn is_word(rt: &impl Env, i: usize, word: &str) -> bool {
     let mut text = [0u8; 8];
-    let n = os::arg(i, &mut text);
-    check::same(&text[..n], word)
+    let n = argument_in(rt, i, &mut text);
+    &text[..n] == word.as_bytes()
 }
 
-pub fn is_shift() -> bool {
-    is_word(1, b"shift")
+pub fn is_shift(rt: &impl Env) -> bool {
+    is_word(rt, 1, "shift")
 }
 
-pub fn asked_for() -> Command {
-    let count = os::arg_count();
-    if count == 5 && is_word(2, b"ask") {
+pub fn asked_for(rt: &impl Env) -> Command {
+    if is_last(rt, 4) && is_word(rt, 2, "ask") {
         return Command::Ask;
     }
-    if count == 6 && is_word(2, b"add") {
+    if is_last(rt, 5) && is_word(rt, 2, "add") {
         return Command::Add;
     }
-    if count == 3 && is_word(2, b"list") {
+    if is_last(rt, 2) && is_word(rt, 2, "list") {
         return Command::List;
     }
-    if count == 4 && is_word(2, b"list") {
+    if is_last(rt, 3) && is_word(rt, 2, "list") {
         return Command::ListBoat;
     }
     Command::Unknown
@@ -80,9 +98,8 @@ fn number_in(text: &[u8]) -> Number {
         return Number::Missing;
     }
     let mut value: u64 = 0;
-    let mut i = 0;
-    while i < text.len() {
-        let digit = digit_of(text[i]);
+    for byte in text {
+        let digit = digit_of(*byte);
         if 9 < digit {
             return Number::Missing;
         }
@@ -90,7 +107,6 @@ fn number_in(text: &[u8]) -> Number {
         if 4294967295 < value {
             return Number::Missing;
         }
-        i += 1;
     }
     let number = value as u32;
     Number::Is(number)
@@ -130,14 +146,14 @@ fn signed_in(text: &[u8]) -> Signed {
     positive(magnitude)
 }
 
-pub fn number_at(i: usize) -> Number {
+pub fn number_at(rt: &impl Env, i: usize) -> Number {
     let mut text = [0u8; 16];
-    let n = os::arg(i, &mut text);
+    let n = argument_in(rt, i, &mut text);
     number_in(&text[..n])
 }
 
-pub fn signed_at(i: usize) -> Signed {
+pub fn signed_at(rt: &impl Env, i: usize) -> Signed {
     let mut text = [0u8; 16];
-    let n = os::arg(i, &mut text);
+    let n = argument_in(rt, i, &mut text);
     signed_in(&text[..n])
 }

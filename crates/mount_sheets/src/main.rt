@@ -10,107 +10,125 @@
 mod adding;
 mod arguments;
 mod asking;
+mod failing;
 mod listing;
 mod printing;
 mod reading;
 mod writing;
 
+ghost use Rattle.std.specs.Prelude.{◌≡◌, length};
+
 use arguments::{Command, Number, Signed};
 use mounts::{Shift, Turned};
+use std::env::Env;
+use std::rt::Files;
 
-fn ask(path: &[u8], room: &mut [u8]) {
-    let Number::Is(boat) = arguments::number_at(3) else {
-        arguments::refuse();
+fn ask(rt: &(impl Env + Files + Print + Eprint), path: &str, room: &mut [u8]) {
+    let Number::Is(boat) = arguments::number_at(rt, 3) else {
+        arguments::refuse(rt);
         return;
     };
-    let Number::Is(edition) = arguments::number_at(4) else {
-        arguments::refuse();
+    let Number::Is(edition) = arguments::number_at(rt, 4) else {
+        arguments::refuse(rt);
         return;
     };
-    asking::ask(path, room, boat, edition);
+    asking::ask(rt, path, room, boat, edition);
 }
 
-fn add(path: &[u8], room: &mut [u8]) {
-    let Number::Is(boat) = arguments::number_at(3) else {
-        arguments::refuse();
+fn add(rt: &(impl Env + Files + Print + Eprint), path: &str, room: &mut [u8]) {
+    let Number::Is(boat) = arguments::number_at(rt, 3) else {
+        arguments::refuse(rt);
         return;
     };
-    let Number::Is(edition) = arguments::number_at(4) else {
-        arguments::refuse();
+    let Number::Is(edition) = arguments::number_at(rt, 4) else {
+        arguments::refuse(rt);
         return;
     };
-    let Number::Is(side) = arguments::number_at(5) else {
-        arguments::refuse();
+    let Number::Is(side) = arguments::number_at(rt, 5) else {
+        arguments::refuse(rt);
         return;
     };
-    adding::add(path, room, boat, edition, side);
+    adding::add(rt, path, room, boat, edition, side);
 }
 
-fn list_boat(path: &[u8], room: &mut [u8]) {
-    let Number::Is(boat) = arguments::number_at(3) else {
-        arguments::refuse();
+fn list_boat(rt: &(impl Env + Files + Print + Eprint), path: &str, room: &mut [u8]) {
+    let Number::Is(boat) = arguments::number_at(rt, 3) else {
+        arguments::refuse(rt);
         return;
     };
-    listing::list(path, room, false, boat);
+    listing::list(rt, path, room, false, boat);
 }
 
-fn shift() {
-    if os::arg_count() != 5 {
-        arguments::refuse();
+fn shift(rt: &(impl Env + Print + Eprint)) {
+    if !arguments::is_last(rt, 4) {
+        arguments::refuse(rt);
         return;
     }
-    let Number::Is(side) = arguments::number_at(2) else {
-        arguments::refuse();
+    let Number::Is(side) = arguments::number_at(rt, 2) else {
+        arguments::refuse(rt);
         return;
     };
-    let Signed::Is(x) = arguments::signed_at(3) else {
-        arguments::refuse();
+    let Signed::Is(x) = arguments::signed_at(rt, 3) else {
+        arguments::refuse(rt);
         return;
     };
-    let Signed::Is(y) = arguments::signed_at(4) else {
-        arguments::refuse();
+    let Signed::Is(y) = arguments::signed_at(rt, 4) else {
+        arguments::refuse(rt);
         return;
     };
     match mounts_code::turn(side, Shift { x, y }) {
         Turned::Vector(vector) => {
-            printing::vector(vector.x, vector.y);
+            printing::vector(rt, vector.x, vector.y);
         }
         Turned::Refused(number, place) => {
-            printing::refusal(number, place);
+            printing::refusal(rt, number, place);
         }
     }
 }
 
-fn on_file(path: &[u8], room: &mut [u8]) {
-    match arguments::asked_for() {
-        Command::Ask => ask(path, room),
-        Command::Add => add(path, room),
-        Command::List => listing::list(path, room, true, 0),
-        Command::ListBoat => list_boat(path, room),
-        Command::Unknown => arguments::refuse(),
+fn on_file(rt: &(impl Env + Files + Print + Eprint), path: &str, room: &mut [u8]) {
+    match arguments::asked_for(rt) {
+        Command::Ask => ask(rt, path, room),
+        Command::Add => add(rt, path, room),
+        Command::List => listing::list(rt, path, room, true, 0),
+        Command::ListBoat => list_boat(rt, path, room),
+        Command::Unknown => arguments::refuse(rt),
     }
 }
 
-fn in_room(path: &[u8], room: &mut [u8; 1048576]) {
-    on_file(path, room);
+fn in_room(rt: &(impl Env + Files + Print + Eprint), path: &str, room: &mut [u8; 1048576]) {
+    on_file(rt, path, room);
 }
 
 // Room for 65536 sheets, the largest file. It is handed over as an array, and not as a slice, so that no proof counts its zeros.
-fn make_room(path: &[u8]) {
+fn make_room(rt: &(impl Env + Files + Print + Eprint), path: &str) {
     let mut room = [0u8; 1048576];
-    in_room(path, &mut room);
+    in_room(rt, path, &mut room);
 }
 
-fn main() {
-    if arguments::is_shift() {
-        shift();
+// Room for any path. A call, so that no proof meets 4096 zeros.
+fn path_room() -> [u8; 4096]
+    ensures { 4096 ≡ length result }
+{
+    [0u8; 4096]
+}
+
+fn main(rt: HostRuntime) {
+    if arguments::is_shift(&rt) {
+        shift(&rt);
         return;
     }
-    let mut path = io::buffer();
-    let n = os::arg(1, &mut path);
-    if os::errno() != 0 {
-        arguments::refuse();
+    let mut name = path_room();
+    let Ok(n) = rt.arg(1, &mut name) else {
+        arguments::refuse(&rt);
         return;
-    }
-    make_room(&path[..n]);
+    };
+    let Ok(path) = str::from_utf8(&name[..n]) else {
+        failing::say(
+            &rt,
+            "the name of the file is not UTF-8, and no other can be opened",
+        );
+        return;
+    };
+    make_room(&rt, path);
 }

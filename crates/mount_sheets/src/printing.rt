@@ -1,137 +1,101 @@
-// Lines for standard output, gathered in a buffer that is written when it is full.
-use libc::STDOUT_FILENO;
+// Lines for standard output: single ones, and those of a list, which are gathered in a buffer that is written when it is full.
+use crate::failing;
 use mounts::Sheet;
+use std::io;
+use std::io::{Cursor, ErrorKind, Write};
 
-// How much of a buffer is filled, and whether all that was to be written so far was taken.
-#[derive(Drop)]
-pub struct Filled {
-    pub used: usize,
-    pub ok: bool,
+// The longest that the line of a sheet is.
+const LONGEST: usize = 32;
+
+fn lost() -> io::Error {
+    io::Error::from(ErrorKind::InvalidInput)
 }
 
-pub fn nothing() -> Filled {
-    Filled { used: 0, ok: true }
-}
-
-fn lost() -> Filled {
-    Filled { used: 0, ok: false }
-}
-
-// Writes what is gathered, unless something before it was lost, and answers whether all was taken.
-fn is_written(buffer: &[u8], filled: Filled) -> bool {
-    let used = filled.used;
+// Writes what is gathered: the first bytes of the buffer.
+fn write_gathered(rt: &impl Print, buffer: &[u8], used: usize) -> io::Result<()> {
     if buffer.len() < used {
-        return false;
+        return Err(lost());
     }
-    if !filled.ok {
-        return false;
-    }
-    io::write_all(STDOUT_FILENO, &buffer[0..used])
+    rt.write_all(&buffer[..used])
 }
 
-// Some text behind what is gathered, which is written first if the buffer has no room for both. A text that is longer than the buffer is
-// lost, and so is what is said to fill more than the buffer.
-fn put(buffer: &mut [u8], filled: Filled, text: &[u8]) -> Filled {
-    let used = filled.used;
-    let ok = filled.ok;
+// Some text behind what is gathered, which is written first if the buffer has no room for both, and how much of the buffer is filled
+// then. A text that is longer than the buffer is lost, and so is what is said to fill more than the buffer.
+fn put(rt: &impl Print, buffer: &mut [u8], used: usize, text: &[u8]) -> io::Result<usize> {
     if buffer.len() < used {
-        return lost();
+        return Err(lost());
     }
     if text.len() <= buffer.len() - used {
-        bytes::copy(text, &mut buffer[used..]);
-        return Filled {
-            used: used + text.len(),
-            ok,
-        };
+        let end = used + text.len();
+        buffer[used..end].copy_from_slice(text);
+        return Ok(end);
     }
     if buffer.len() < text.len() {
-        return lost();
+        return Err(lost());
     }
-    if !is_written(buffer, filled) {
-        return lost();
-    }
-    bytes::copy(text, buffer);
-    Filled {
-        used: text.len(),
-        ok,
-    }
+    write_gathered(rt, buffer, used)?;
+    buffer[..text.len()].copy_from_slice(text);
+    Ok(text.len())
 }
 
-fn put_number(buffer: &mut [u8], filled: Filled, before: &[u8], n: u64) -> Filled {
-    let mut digits = [0u8; 20];
-    let k = io::decimal(n, &mut digits);
-    let filled = put(buffer, filled, before);
-    put(buffer, filled, &digits[..k])
-}
-
-fn magnitude(x: i16) -> u16 {
-    if x < 0 {
-        let below = (!x) as u16;
-        return below + 1;
-    }
-    x as u16
-}
-
-fn put_signed(buffer: &mut [u8], filled: Filled, before: &[u8], x: i16) -> Filled {
-    let filled = put(buffer, filled, before);
-    if x < 0 {
-        return put_number(buffer, filled, b"-", magnitude(x) as u64);
-    }
-    put_number(buffer, filled, b"", magnitude(x) as u64)
+fn put_line(
+    rt: &impl Print,
+    buffer: &mut [u8],
+    used: usize,
+    line: Cursor<[u8; LONGEST]>,
+) -> io::Result<usize> {
+    let len = line.position() as usize;
+    let bytes = line.into_inner();
+    put(rt, buffer, used, &bytes[..len.min(LONGEST)])
 }
 
 // The line of a sheet in a list.
-pub fn put_sheet(buffer: &mut [u8], filled: Filled, sheet: Sheet) -> Filled {
-    let filled = put_number(buffer, filled, b"", sheet.boat as u64);
-    let filled = put_number(buffer, filled, b" ", sheet.edition as u64);
-    let filled = put_number(buffer, filled, b" ", sheet.side as u64);
-    put(buffer, filled, b"\n")
+pub fn put_sheet(
+    rt: &impl Print,
+    buffer: &mut [u8],
+    used: usize,
+    sheet: Sheet,
+) -> io::Result<usize> {
+    let mut line = Cursor::new([0u8; LONGEST]);
+    writeln!(line, "{} {} {}", sheet.boat, sheet.edition, sheet.side)?;
+    put_line(rt, buffer, used, line)
 }
 
-// Ends the last line and writes all that is gathered, and answers whether it was taken.
-fn is_finished(buffer: &mut [u8], filled: Filled) -> bool {
-    let filled = put(buffer, filled, b"\n");
-    is_written(buffer, filled)
+// The last line of a list, written with all that is gathered.
+pub fn listed(rt: &impl Print, buffer: &mut [u8], used: usize, count: u64) -> io::Result<()> {
+    let mut line = Cursor::new([0u8; LONGEST]);
+    writeln!(line, "listed {count}")?;
+    let used = put_line(rt, buffer, used, line)?;
+    write_gathered(rt, buffer, used)
 }
 
-fn finish(buffer: &mut [u8], filled: Filled) {
-    if !is_finished(buffer, filled) {
-        os::fail(b"mount_sheets: standard output cannot be written");
+// Says that standard output did not take all, if it did not.
+pub fn finish(rt: &impl Eprint, printed: io::Result<()>) {
+    if let Err(e) = printed {
+        failing::say_why(rt, "standard output cannot be written", &e);
     }
 }
 
-fn print_two(word: &[u8], first: u64, second: u64) {
-    let mut line = io::buffer();
-    let filled = put_number(&mut line, nothing(), word, first);
-    let filled = put_number(&mut line, filled, b" ", second);
-    finish(&mut line, filled);
+pub fn found(rt: &(impl Print + Eprint), sheet: Sheet) {
+    let edition = sheet.edition;
+    let side = sheet.side;
+    finish(rt, println!(rt; "found {edition} {side}"));
 }
 
-pub fn found(sheet: Sheet) {
-    print_two(b"found ", sheet.edition as u64, sheet.side as u64);
+pub fn refusal(rt: &(impl Print + Eprint), number: u8, place: u64) {
+    finish(rt, println!(rt; "refuse {number} {place}"));
 }
 
-pub fn refusal(number: u8, place: u64) {
-    print_two(b"refuse ", number as u64, place);
+pub fn vector(rt: &(impl Print + Eprint), x: i16, y: i16) {
+    finish(rt, println!(rt; "vector {x} {y}"));
 }
 
-pub fn vector(x: i16, y: i16) {
-    let mut line = io::buffer();
-    let filled = put_signed(&mut line, nothing(), b"vector ", x);
-    let filled = put_signed(&mut line, filled, b" ", y);
-    finish(&mut line, filled);
-}
-
-pub fn added(count: u64) {
-    let mut line = io::buffer();
-    let filled = put_number(&mut line, nothing(), b"added ", count);
-    if !is_finished(&mut line, filled) {
-        os::fail(b"mount_sheets: the sheet was added, but standard output cannot be written");
+pub fn added(rt: &(impl Print + Eprint), count: u64) {
+    if let Err(e) = println!(rt; "added {count}") {
+        failing::say_why(
+            rt,
+            "the sheet was added, but standard output cannot be written",
+            &e,
+        );
     }
-}
-
-// The last line of a list.
-pub fn listed(buffer: &mut [u8], filled: Filled, count: u64) {
-    let filled = put_number(buffer, filled, b"listed ", count);
-    finish(buffer, filled);
 }

@@ -1,56 +1,71 @@
 // A file read whole.
-ghost use Rattle.io.specs.Counts.{IsPrefixLen};
+ghost use Rattle.std.specs.Prelude.{◌≡◌, ◌≤◌, length, take};
 
-use libc::STDERR_FILENO;
+use crate::failing;
+use std::fs;
+use std::io::{Error, ErrorKind, Read};
+use std::rt::Files;
 
 // What reading came to. Of a failure it was said what it is.
-#[derive(Drop)]
+#[derive(Clone, Copy)]
 pub enum Outcome {
     Whole,
-    Missing,
+    Missing(Error),
     Failed,
 }
 
 // How many bytes were read, none unless the file was read whole.
-#[derive(Drop)]
+#[derive(Clone, Copy)]
 pub struct Reading {
     pub outcome: Outcome,
     pub len: usize,
 }
 
-fn say_unreadable() {
-    os::fail(b"mount_sheets: the file cannot be read");
+fn say_unreadable(rt: &impl Eprint, why: &Error) {
+    failing::say_why(rt, "the file cannot be read", why);
 }
 
 // Whether the file ends where reading stopped, with the room full or not. If it does not, it is said why. That the input ended and that a
 // read failed are told apart here, by one read more.
-fn is_at_end(fd: i32, is_full: bool) -> bool {
+fn is_at_end(rt: &impl Eprint, file: &mut impl Read, is_full: bool) -> bool {
     let mut byte = [0u8; 1];
-    let got = libc::read(fd, &mut byte);
-    if got == 0 {
-        return true;
-    }
-    if got < 0 {
-        say_unreadable();
-    } else if is_full {
-        io::write_all(
-            STDERR_FILENO,
-            b"mount_sheets: the file is longer than 1048576 bytes, the most that is taken\n",
-        );
-    } else {
-        io::write_all(
-            STDERR_FILENO,
-            b"mount_sheets: the file cannot be read to its end\n",
-        );
+    match file.read(&mut byte) {
+        Ok(0) => return true,
+        Ok(_) => {
+            if is_full {
+                failing::say(
+                    rt,
+                    "the file is longer than 1048576 bytes, the most that is taken",
+                );
+            } else {
+                failing::say(rt, "the file cannot be read to its end");
+            }
+        }
+        Err(e) => say_unreadable(rt, &e),
     }
     false
 }
 
-fn read_open(fd: i32, room: &mut [u8]) -> Reading
-    ensures { IsPrefixLen result.len room.new }
+// Reads until the room is full, the file ends or a read fails, and answers how many bytes it read.
+fn read_full(file: &mut impl Read, room: &mut [u8]) -> usize
+    ensures { (result ≤ length room.new) × (result ≡ length (take result room.new)) }
 {
-    let len = io::read_full(fd, room);
-    if is_at_end(fd, len == room.len()) {
+    let mut done = 0;
+    while done < room.len() {
+        let got = file.read(&mut room[done..]).unwrap_or(0);
+        if got == 0 {
+            break;
+        }
+        done += got;
+    }
+    done
+}
+
+fn read_open(rt: &impl Eprint, file: &mut impl Read, room: &mut [u8]) -> Reading
+    ensures { (result.len ≤ length room.new) × (result.len ≡ length (take result.len room.new)) }
+{
+    let len = read_full(file, room);
+    if is_at_end(rt, file, len == room.len()) {
         return Reading {
             outcome: Outcome::Whole,
             len,
@@ -63,36 +78,34 @@ fn read_open(fd: i32, room: &mut [u8]) -> Reading
 }
 
 // Reads the file to the start of the room. A file that is missing is no failure.
-pub fn read_file(path: &[u8], room: &mut [u8]) -> Reading
-    ensures { IsPrefixLen result.len room.new }
+pub fn read_file(rt: &(impl Files + Eprint), path: &str, room: &mut [u8]) -> Reading
+    ensures { (result.len ≤ length room.new) × (result.len ≡ length (take result.len room.new)) }
 {
-    let fd = os::open_read(path);
-    if 0 <= fd {
-        let reading = read_open(fd, room);
-        libc::close(fd);
-        return reading;
-    }
-    if os::errno() == libc::ENOENT {
-        return Reading {
-            outcome: Outcome::Missing,
-            len: 0,
-        };
-    }
-    say_unreadable();
-    Reading {
-        outcome: Outcome::Failed,
-        len: 0,
+    match fs::open(rt, path) {
+        Ok(mut file) => read_open(rt, &mut file, room),
+        Err(e) => {
+            if e.kind() == ErrorKind::NotFound {
+                return Reading {
+                    outcome: Outcome::Missing(e),
+                    len: 0,
+                };
+            }
+            say_unreadable(rt, &e);
+            Reading {
+                outcome: Outcome::Failed,
+                len: 0,
+            }
+        }
     }
 }
 
 // The same where a file that is missing is a failure.
-pub fn read_existing(path: &[u8], room: &mut [u8]) -> Reading
-    ensures { IsPrefixLen result.len room.new }
+pub fn read_existing(rt: &(impl Files + Eprint), path: &str, room: &mut [u8]) -> Reading
+    ensures { (result.len ≤ length room.new) × (result.len ≡ length (take result.len room.new)) }
 {
-    let reading = read_file(path, room);
-    let outcome = reading.outcome;
-    if let Outcome::Missing = outcome {
-        say_unreadable();
+    let reading = read_file(rt, path, room);
+    if let Outcome::Missing(e) = reading.outcome {
+        say_unreadable(rt, &e);
         return Reading {
             outcome: Outcome::Failed,
             len: 0,

@@ -59,15 +59,15 @@ left c =
     let ws = a.words.now in
     let here : Before a.progress ws l.column l.forward l.backward l.at = (l.invariant.room, omega arith, l.invariant.going) in
     elim c.loop-column-test.branch [
-      | else-loop-column-test w ↦ same_place a.progress ws w.column_is w.forward_is w.backward_is w.at_is here
-      | then-loop-column-test+in_default w ↦ same_place a.progress ws w.column_is w.forward_is w.backward_is w.at_is here
+      | else-loop-column-test w ↦ same_place a.progress ws w.column-is w.forward-is w.backward-is w.at-is here
+      | then-loop-column-test+in_default w ↦ same_place a.progress ws w.column-is w.forward-is w.backward-is w.at-is here
       | then-loop-column-test+in-Kept+then-bits-ne0 w ↦
           let room : l.at + 9 ≤ length ws = omega (arith, l.invariant.going.at_is, l.invariant.going.column_is, c.limit_of-limit.ensures, w.loop-column-test.true) in
           let inside : l.column < a.progress.picture.grid.columns = omega (arith, c.limit_of-limit.ensures.1, w.loop-column-test.true) in
           let found : Found a.progress l.column l.forward l.backward (take (l.at + 9 - l.at) (drop l.at ws)) l.due (take (l.at - l.was) (drop l.was ws)) w.in-Kept.f w.in-Kept.b = w.in-Kept.ensures in
           let behind : Before a.progress ws (l.column + 1) w.in-Kept.f w.in-Kept.b (l.at + 9) =
           (room, omega (arith, w.loop-column-test.true), go_on a.progress ws l.column l.due l.was l.at l.forward l.backward c.requires inside l.invariant.going l.invariant.due_next _ _ room found) in
-          same_place a.progress ws w.column_is w.forward_is w.backward_is w.at_is behind
+          same_place a.progress ws w.column-is w.forward-is w.backward-is w.at-is behind
     ]
 
 pub taken-requires : goal.taken-requires
