@@ -19,7 +19,7 @@ use Rattle.batch.proofs.Runs.{gone_through}
 use Rattle.decoding.specs.Logs.{log_of, log_length, roomed, decoded, log_after, decoded_log}
 use Rattle.decoding.proofs.RoomLaws.{Other, unwritten, not_accepted, lacking, roomy}
 
--- What a batch that came to its END says of its picture: the progress has it, and its macroblocks are W-as-H.
+-- What a batch that came to its END says of its picture: the progress has it, and its macroblocks are W·H.
 pub record Ended (ws : List ℕ) (p : Progress) : Type 0 where
   pub picture : p.picture ≡ batch_picture ws
   pub full : length (macroblocks_in (commands_of ws)) ≡ (batch_picture ws).grid.columns * (batch_picture ws).grid.rows

@@ -55,7 +55,7 @@ RoomIn log ws = log_length (batch_picture ws).grid ≤ length log
 
 -- What stands in a log after decoding a batch into it. `before` is the whole log before, `after` the whole log afterwards.
 pub record Decoded (ws before after : List ℕ) : Type 0 where
-  -- W-as-H macroblocks have come, and their log fits
+  -- W·H macroblocks have come, and their log fits
   pub count : length (macroblocks_in (commands_of ws)) ≡ (batch_picture ws).grid.columns * (batch_picture ws).grid.rows
   pub fits : log_length (batch_picture ws).grid ≤ length before
   pub same_length : length after ≡ length before

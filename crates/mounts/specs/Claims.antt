@@ -1,5 +1,5 @@
 -- What is claimed of asking and adding. What is quoted is document 02 (R-9).
--- Proved: `bad_place`, `first_bad_given` (proofs/StoredLaws.antt), `editions_rise` (proofs/Rising.antt), `found_newest`, `None-found`, `Found-None`, `ask_numbers`
+-- Proved: `bad_place`, `first_bad_given` (proofs/StoredLaws.antt), `editions_rise` (proofs/Rising.antt), `found_newest`, `none_found`, `found_none`, `ask_numbers`
 -- (proofs/Finding.antt), `add_numbers` (proofs/AddLaws.antt), `add_leaves`, `added_found` (proofs/Adding.antt) and `later_adding` (proofs/Later.antt).
 use Rattle.std.specs.Prelude.{ℕ, suc, ◌*◌, ◌^◌, ◌≤◌, ◌<◌, true, false, List, [], ◌∷◌, ◌++◌, ◌⊎◌, ◌≡◌, length, take, drop}
 use Rattle.mounts.specs.Layout.{sheet_length}

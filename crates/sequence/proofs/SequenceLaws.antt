@@ -104,10 +104,10 @@ unfolding rules_of next_of surface_next picture_next group_next end_next
 sound_next (Known Noop n) p ws a s = (s, sym (add-zero (have_come p)))
 sound_next (Known End n) p ws a s =
     let g = p.picture.grid in
-    let Open-none = p.stage.pictured && not p.stage.in_group in
+    let open_none = p.stage.pictured && not p.stage.in_group in
     let h = rule_kept 3 0 (rules_of (Known End n) p ws) a in
-    let pictured = and_left p.stage.pictured (not p.stage.in_group) (and_left Open-none (leb g.rows p.position.row) h) in
-    let full = leb-true g.rows p.position.row (and_right Open-none (leb g.rows p.position.row) h) in (
+    let pictured = and_left p.stage.pictured (not p.stage.in_group) (and_left open_none (leb g.rows p.position.row) h) in
+    let full = leb-true g.rows p.position.row (and_right open_none (leb g.rows p.position.row) h) in (
       record {
         group_pictured = s.group_pictured;
         pictured_surfaced = s.pictured_surfaced;
@@ -171,7 +171,7 @@ pub noop_passes : (n : ℕ) (p : Progress) (ws : List ℕ) → judge (Known Noop
 unfolding judge rules_of next_of
 noop_passes n p ws = refl
 
--- After END exactly W-as-H macroblocks have come.
+-- After END exactly W·H macroblocks have come.
 pub all_come : (p : Progress) → Sound p → p.stage.ended ≡ true → have_come p ≡ p.picture.grid.rows * p.picture.grid.columns
 all_come p s e =
     let f = s.ended_full e in

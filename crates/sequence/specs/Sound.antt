@@ -5,7 +5,7 @@ use Rattle.progress.specs.declared.Progress.{Progress}
 use Rattle.placement.specs.Progressing.{count_before, Reached}
 
 -- What holds of every progress: a group is open only after PICTURE, which comes after SURFACE; before PICTURE no macroblock has
--- come; after it the pitch holds a macroblock, the next one is in a column of the picture, and no more than W-as-H come; after END
+-- come; after it the pitch holds a macroblock, the next one is in a column of the picture, and no more than W·H come; after END
 -- they have all come.
 pub record Sound (p : Progress) : Type 0 where
   pub group_pictured : p.stage.in_group ≡ true → p.stage.pictured ≡ true
