@@ -1,6 +1,6 @@
 -- `complete_lengths`: a piece behind the first bytes of the lengths.
 use mathlib.Core.Bool.{false}
-use mathlib.Core.List.{List, [], ◌++◌, foldl}
+use mathlib.Core.List.{[], ◌++◌, foldl}
 use mathlib.Core.Path.{◌≡◌, sym, ◌∙◌, ap, ap₂}
 use Prim.Native.Nat.{ℕ, ◌+◌, ◌-◌}
 use native.Mathlib.Omega.{arith}
