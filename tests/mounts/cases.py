@@ -199,7 +199,7 @@ def writes():
         Case('a part that cannot be cut back', f'FAULT_write=8 FAULT_ftruncate=-5 faulty {add}; mounts book add 7 3 port', 1,
              f'refuse 20 3: left over behind the last whole sheet: 8 bytes, from byte 48 on{CHANGED_NOT}\n', said(PART, UNCUT), after=f'{{ {partly}; }} | cmp - book'),
         Adding('the disk does not say that it has it', f'FAULT_fsync=-5 faulty {add}', 2, err=said(UNSURE)),
-        Adding('the file cannot be closed', f'FAULT_close=-5 faulty {add}', 2, err=said(UNSURE)),
+        Adding('the file cannot be closed', f'FAULT_close=-5 faulty {add}', 0, THIRD),
         Adding('the program is ended after writing', f'FAULT_fsync=kill faulty {add}', 2,
                err='(.*Killed.*\n)?mounts: book: the program .* ended with status 137 and no answer: .*; list FILE to see whether the sheet was added\n'),
         Case('the program is ended before writing', f'FAULT_write=kill faulty {add} 2> /dev/null', 2),
