@@ -15,6 +15,7 @@ FACTS = (
     r'the equations do not join|before the equations had joined',
     r'no equation of the list (?:has an instance|can be applied)',
     r'must be a path whose two ends are equal',
+    r'give a proof of that as the last argument',  # of what `simp` or `rw` left, which says so further on
 )
 
 
@@ -30,7 +31,8 @@ def errors_in(log):
 
 # Those that may be cut in their words, since what stands before these is long.
 BEHIND = tuple(start + words[:n] for start, words in (
-    ('expected type `_`', ', but this has type'), ('expected type `_`', ' but this has type'), ('`_` ≟ `_`', ' does not hold')) for n in range(len(words)))
+    ('expected type `_`', ', but this has type'), ('expected type `_`', ' but this has type'), ('`_` ≟ `_`', ' does not hold'),
+    ('no proof of `_`', ' was found')) for n in range(len(words)))
 
 
 def is_fact(message, cut=False):
