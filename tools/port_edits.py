@@ -18,7 +18,28 @@ import sys
 
 # What is written by hand, by (crate, file, name of the block or '', number of the pair): the pairs that stand in its place, as (old, new) or
 # (file, old, new). They are written in today's forms with the names of LANDED; names are respelled as everywhere.
-BY_HAND = {}
+# Same wrong meaning, where the old text would change the words of a condition or a pattern: today's goals are named by them, and an answer
+# that names one which is gone would show nothing of the contract.
+BY_HAND = {
+    ("batch_code", "wrong_3.edit", "zero_behind_end_refused", 1): [("        let word = words[at];", "        let word = words[at] ^ 1;")],
+    ("commands_code", "wrong_1.edit", "judged_before_whole", 1): [("        return NextCommand::Incomplete;", "        return NextCommand::Whole(header, n);")],
+    ("decoding_code", "wrong_1.edit", "refusal_writes", 1): [
+        (
+            "            let Report::Accepted(reported) = report else {",
+            "            let Report::Accepted(reported) = (match report { Report::Short(_, _, r) => Report::Accepted(r), _ => Report::Refused(0, 0) }) else {",
+        )
+    ],
+    ("decoding_code", "wrong_2.edit", "room_of_one_record", 1): [
+        ("            let needed = log_length(p.picture.grid);", "            let needed = log_length(Grid { columns: 1, rows: 1 });")
+    ],
+    ("mounts_code", "wrong_1.edit", "side_2_taken", 1): [
+        ("let judged = asking::judge(sheets, count, boat, u32::MAX);", "let judged = asking::judge(sheets, count, boat, u32::MAX); let side = side - side / 2;")
+    ],
+    ("mounts_code", "wrong_1.edit", "turned_on_starboard", 1): [("if 1 < side {", "let side = side ^ 1; if 1 < side {")],
+    ("prediction_code", "wrong_1.edit", "join_empty_as_byte_0", 1): [
+        ("        return other;", "        return Extent { first: lower(one.first, other.first), end: other.end };")
+    ],
+}
 
 IDENT = r"[^\s(){}\[\];,.\"|⟦⟧λ∥]+"
 TOKEN = re.compile(r'"(?:\\.|[^"\\])*"|' + IDENT + r"|[^\s]")

@@ -13,12 +13,6 @@ other (Accepted e) k = absurd (k e refl)
 other (Short n place e) k = tt
 other (Refused n place) k = tt
 
-pub returns-in_default : goal.returns-in_default
-returns-in_default c =
-    let a = c.args in
-    lacks_buffer a.lengths a.words.now a.log.now _ _ (sym c.judge_batch.ensures ∙ c.in-Next.is) c.report_of-report.ensures
-    (other c.report_of-report.result c.in_default.not-Accepted)
-
 pub returns-then-log-needed : goal.returns-then-log-needed
 returns-then-log-needed c =
     let a = c.args in
@@ -41,3 +35,9 @@ returns-else-log-needed c =
     let a = c.args in
     writes a.lengths a.words.now a.log.now _ _ (sym c.judge_batch.ensures ∙ c.in-Next.is) c.report_of-report.ensures
     _ c.in-Accepted.is _ c.log_length-needed.ensures _ c.if-log-needed.false c.write_records.ensures
+
+pub returns-in_default : goal.returns-in_default
+returns-in_default c =
+    let a = c.args in
+    lacks_buffer a.lengths a.words.now a.log.now _ _ (sym c.judge_batch.ensures ∙ c.in-Next.is) c.report_of-report.ensures
+    (other c.report_of-report.result c.in_default.not-Accepted)
