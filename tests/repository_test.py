@@ -257,6 +257,12 @@ class Refusals(Tree):
     def test_crate_that_is_proved(self):
         self.assertIn('did not refuse it', self.fault('one', LAW_LOG.replace('logic=not-proved', 'logic=proved')))
 
+    def test_facts_that_are_cut(self):
+        left = 'error: `a`: give a proof of that as the last argument, `simp L t` (`simp L ?` shows it as a hole'
+        for message in (left, 'error: `a`: `search`: no proof of `b ≡ c', 'error: `a`: `search`: no proof of `b` was'):
+            self.assertTrue(refusals.is_fact(message, cut=True))
+            self.assertFalse(refusals.is_fact(message))
+
     def test_quoted_words_count_for_nothing(self):
         self.assertTrue(refusals.is_fact('error: `a`: the two types are `b was not admitted` (expected) and `c` (found)'))
         self.assertFalse(refusals.is_fact('error: `a`: `it is not proved that` is not in scope'))

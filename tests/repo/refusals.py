@@ -15,7 +15,6 @@ FACTS = (
     r'the equations do not join|before the equations had joined',
     r'no equation of the list (?:has an instance|can be applied)',
     r'must be a path whose two ends are equal',
-    r'give a proof of that as the last argument',  # of what `simp` or `rw` left, which says so further on
 )
 
 
@@ -35,9 +34,13 @@ BEHIND = tuple(start + words[:n] for start, words in (
     ('no proof of `_`', ' was found')) for n in range(len(words)))
 
 
+# Of what `simp` or `rw` leaves the prover says this first, and further on that it must be a path whose two ends are equal.
+LEFT = 'give a proof of that as the last argument'
+
+
 def is_fact(message, cut=False):
     words = re.sub(r'`[^`]*(`|$)', '`_`', message)
-    return any(re.search(fact, words) for fact in FACTS) or (cut and words.endswith(BEHIND))
+    return any(re.search(fact, words) for fact in FACTS) or (cut and (LEFT in words or words.endswith(BEHIND)))
 
 
 def in_function(f, file, line):
