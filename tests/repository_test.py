@@ -373,9 +373,20 @@ class Contracts(Tree):
             return contracts.check_halves(root, faults, halves)
 
         self.passes(check, 2)
-        for wrong, fault in (('n as u32 / 1', 'wide has a /'), ('num::wrapping_mul_u32(1, n as u32)', 'wide calls wrapping_mul_u32')):
-            self.write('crates/one_code/src/lib.rt', BASE['crates/one_code/src/lib.rt'].replace('    n as u32', f'    {wrong}'))
+        def write(body):
+            self.write('crates/one_code/src/lib.rt', BASE['crates/one_code/src/lib.rt'].replace('    n as u32', f'    {body}'))
+
+        for wrong, fault in (
+            ('n as u32 / 1', 'wide has a /'),
+            ('num::wrapping_mul_u32(1, n as u32)', 'wide calls wrapping_mul_u32'),
+            ('n.saturating_mul(1) as u32', 'wide calls saturating_mul, which has a'),
+            ('n.rotate_left(1) as u32', 'wide calls rotate_left, which'),
+            ('min(n, 1) as u32', 'wide calls min, which is not looked at'),
+        ):
+            write(wrong)
             self.refuses(check, fault)
+        write('n.saturating_sub(1) as u32')
+        self.passes(check, 2)
         halves['crates/one_code/src/lib.rt'] = {'wide'}
         self.write('crates/one_code/src/lib.rt', 'fn wide(n: u8) -> u32 {\n    n as u32 % 9\n}\n\nfn other()\n{\n}\n')
         self.refuses(check, 'wide has a %')

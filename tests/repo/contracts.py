@@ -1,5 +1,7 @@
 """Crates of definitions and crates of functions; what public functions promise, and that something guards each."""
+import pathlib
 import re
+import subprocess
 
 from . import antt, rattle
 from .edits import aside, changed, edits, has_definitions, libraries, listed
@@ -117,8 +119,22 @@ HALVES = {
     'crates/fields_code/src/word.rt': None,
     'crates/prediction_code/src/vectors.rt': None,
     'crates/prediction_code/src/spans.rt': {'biased'},
-    'crates/prediction_code/src/lines.rt': {'x_of', 'y_of'},
 }
+
+
+def std_bodies(name):
+    """What std's method of a name does to the integers that a word is taken apart into, as the kit's own source says."""
+    kit = pathlib.Path(subprocess.run(['rt', 'doc'], capture_output=True, text=True, check=True).stdout.strip()).parent
+    for kinds in (('u8', 'u16', 'u32'), ('i16',)):
+        bodies = []
+        for kind in kinds:
+            code = code_of((kit / 'rattle/core/src/int' / f'{kind}.rt').read_text(), '.rt')
+            if found := re.search(rf'\bfn {name}\(', code):
+                start = rattle.body_of(code, found.end())
+                bodies.append(code[start:rattle.closing(code, start)])
+        if bodies:
+            return bodies
+    return []
 
 
 def check_halves(root, faults, halves=HALVES):
@@ -134,5 +150,9 @@ def check_halves(root, faults, halves=HALVES):
         if sign := re.search(r'[*/%]', f.body):
             faults.append(f'{f.file}: {f.name} has a {sign[0]}')
         for called in sorted(set(re.findall(r'(\w+)\(', f.body)) - {other.name for other in between}):
-            faults.append(f'{f.file}: {f.name} calls {called}, which is not looked at')
+            bodies = std_bodies(called) if f'.{called}(' in f.body else []
+            if not bodies or any(re.search(r'\w\(', body) for body in bodies):
+                faults.append(f'{f.file}: {f.name} calls {called}, which is not looked at')
+            elif sign := re.search(r'[*/%]', ''.join(bodies)):
+                faults.append(f'{f.file}: {f.name} calls {called}, which has a {sign[0]}')
     return len(between)

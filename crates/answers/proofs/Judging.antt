@@ -1,15 +1,14 @@
 -- Tables of rules: what is judged of one that is in order, of two together, and when nothing is refused.
-use mathlib.Core.Path.{◌≡◌, refl, sym, ap, ap₂, subst, ◌∙◌}
+use mathlib.Core.Path.{◌≡◌, refl, sym, ap, subst, ◌∙◌}
 use mathlib.Core.Bool.{Bool, true, false, cond, not, ◌&&◌, ◌||◌}
 use mathlib.Core.List.{List, [], ◌∷◌, ◌++◌, foldl}
 use Prim.Native.Nat.{ℕ, ◌<◌, ◌≤◌}
 use native.Mathlib.Omega.{arith}
-use borrow.Author.Tests.{not-false, ltb-true, ltb-false, lt-ltb, le-ltb, eqb-true, eqb-false, eq-eqb, ne_eqb}
+use borrow.Author.Tests.{not-false, ltb-true, ltb-false, le-ltb, eqb-true, eqb-false, ne_eqb}
 use lib.Dec.{T, eqb, leb, ltb, leb→le}
 use Rattle.lists.proofs.Booleans.{no, both, either}
-use Rattle.answers.specs.Answers.{Rule, earlier, answer_by, judged, holds_at, unless, before}
-use Rattle.answers.specs.declared.Answer.{Answer}
-use Rattle.answers.specs.declared.Answer.TheVariants.{Accepted, Refused}
+use Rattle.answers.specs.Answers.{Rule, earlier, answer_by, judged, holds_at, unless, before, Accepted, refused, Answer}
+use Rattle.std.specs.Prelude.{Err}
 use Rattle.answers.specs.Tables.{first_broken, none_before, ascending, Hold, Each, within}
 
 is_before : (m q n p : ℕ) → before m q n p ≡ true → (q ≤ p) × (q ≡ p → m < n)
@@ -57,39 +56,27 @@ round_down m q n p k r e f g =
     let mc = c.1 (omega arith) in
     omega arith
 
--- which of two refusals is earlier
-pub before_place : (m q n p : ℕ) → q < p → before m q n p ≡ true
-before_place m q n p h = simp (lt-ltb q p h)
-
+-- a refusal at a later place is not earlier
 pub after_place : (m q n p : ℕ) → p < q → before m q n p ≡ false
 after_place m q n p h = simp (le-ltb q p (omega arith), ne_eqb q p (λ e. absurd (omega arith)))
-
-pub same_place : (m q n p : ℕ) → p ≤ q → q ≤ p → before m q n p ≡ ltb m n
-same_place m q n p h l = simp (le-ltb q p h, eq-eqb q p (omega arith))
-
-pub takes_second : {a b : Answer} (n p m q : ℕ) → a ≡ Refused n p → b ≡ Refused m q → before m q n p ≡ true → Refused m q ≡ earlier a b
-takes_second n p m q ea eb t = sym (ap₂ earlier ea eb ∙ ap (λ (x : Bool). cond x (Refused m q) (Refused n p)) t)
-
-pub takes_first : {a b : Answer} (n p m q : ℕ) → a ≡ Refused n p → b ≡ Refused m q → before m q n p ≡ false → Refused n p ≡ earlier a b
-takes_first n p m q ea eb t = sym (ap₂ earlier ea eb ∙ ap (λ (x : Bool). cond x (Refused m q) (Refused n p)) t)
 
 -- Judging in one order or another: the earlier of three is taken two at a time.
 pub earlier_accepted : (a : Answer) → earlier a Accepted ≡ a
 earlier_accepted Accepted = refl
-earlier_accepted (Refused n p) = refl
+earlier_accepted (Err f) = refl
 
 pub earlier_assoc : (a b c : Answer) → earlier a (earlier b c) ≡ earlier (earlier a b) c
 earlier_assoc Accepted b c = refl
-earlier_assoc (Refused n p) Accepted c = refl
-earlier_assoc (Refused n p) (Refused m q) Accepted = sym (earlier_accepted (earlier (Refused n p) (Refused m q)))
-earlier_assoc (Refused n p) (Refused m q) (Refused k r) = by (before m q n p) (before k r m q) (before k r n p) refl refl refl
+earlier_assoc (Err f) Accepted c = refl
+earlier_assoc (Err f) (Err g) Accepted = sym (earlier_accepted (earlier (Err f) (Err g)))
+earlier_assoc (Err f1) (Err f2) (Err f3) = by (before f2.number f2.place f1.number f1.place) (before f3.number f3.place f2.number f2.place) (before f3.number f3.place f1.number f1.place) refl refl refl
   where
-    by : (x y z : Bool) → before m q n p ≡ x → before k r m q ≡ y → before k r n p ≡ z → earlier (Refused n p) (cond y (Refused k r) (Refused m q)) ≡ earlier (cond x (Refused m q) (Refused n p)) (Refused k r)
+    by : (x y z : Bool) → before f2.number f2.place f1.number f1.place ≡ x → before f3.number f3.place f2.number f2.place ≡ y → before f3.number f3.place f1.number f1.place ≡ z → earlier (Err f1) (cond y (Err f3) (Err f2)) ≡ earlier (cond x (Err f2) (Err f1)) (Err f3)
     by true true true e f g = simp (f, g)
-    by true true false e f g = absurd (round_up m q n p k r e f g)
+    by true true false e f g = absurd (round_up f2.number f2.place f1.number f1.place f3.number f3.place e f g)
     by true false z e f g = simp (e, f)
     by false true z e f g = refl
-    by false false true e f g = absurd (round_down m q n p k r e f g)
+    by false false true e f g = absurd (round_down f2.number f2.place f1.number f1.place f3.number f3.place e f g)
     by false false false e f g = simp (e, g)
 
 pub judged_append : (rs ss : List Rule) → judged (rs ++ ss) ≡ earlier (judged rs) (judged ss)
@@ -99,7 +86,7 @@ judged_append (r ∷ rs) ss = ap (earlier (answer_by r)) (judged_append rs ss) �
 -- an answer that is not before n at p
 abbrev late : ℕ → ℕ → Answer → Bool
 late n p Accepted = true
-late n p (Refused m q) = not (before m q n p)
+late n p (Err f) = not (before f.number f.place n p)
 
 late_by : (n p : ℕ) (h : Bool) (a b : Answer) → T (late n p a) → T (late n p b) → T (late n p (cond h a b))
 late_by n p true a b s t = s
@@ -107,20 +94,20 @@ late_by n p false a b s t = t
 
 late_earlier : (n p : ℕ) (a b : Answer) → T (late n p a) → T (late n p b) → T (late n p (earlier a b))
 late_earlier n p Accepted b s t = t
-late_earlier n p (Refused m q) Accepted s t = s
-late_earlier n p (Refused m q) (Refused k r) s t = late_by n p (before k r m q) (Refused k r) (Refused m q) t s
+late_earlier n p (Err f) Accepted s t = s
+late_earlier n p (Err f) (Err g) s t = late_by n p (before g.number g.place f.number f.place) (Err g) (Err f) t s
 
 late_judged : (n p : ℕ) (rs : List Rule) → T (none_before n p rs) → T (late n p (judged rs))
 late_judged n p [] t = tt
 late_judged n p (r ∷ rs) t =
     let h = both (not (before r.number r.place n p)) (none_before n p rs) t in
-    late_earlier n p (answer_by r) (judged rs) (late_by n p r.holds Accepted (Refused r.number r.place) tt h.0) (late_judged n p rs h.1)
+    late_earlier n p (answer_by r) (judged rs) (late_by n p r.holds Accepted (refused r.number r.place) tt h.0) (late_judged n p rs h.1)
 
-stays : (n p : ℕ) (a : Answer) → T (late n p a) → earlier (Refused n p) a ≡ Refused n p
+stays : (n p : ℕ) (a : Answer) → T (late n p a) → earlier (refused n p) a ≡ refused n p
 stays n p Accepted t = refl
-stays n p (Refused m q) t = by (before m q n p) t
+stays n p (Err f) t = by (before f.number f.place n p) t
   where
-    by : (b : Bool) → T (not b) → cond b (Refused m q) (Refused n p) ≡ Refused n p
+    by : (b : Bool) → T (not b) → cond b (Err f) (refused n p) ≡ refused n p
     by true t = absurd t
     by false t = refl
 
@@ -131,12 +118,12 @@ in_order (r ∷ rs) t = by (both (none_before r.number r.place rs) (ascending rs
     by : T (none_before r.number r.place rs) × T (ascending rs)
         → (T (ascending rs) → judged rs ≡ first_broken rs)
         → (h : Bool)
-        → earlier (cond h Accepted (Refused r.number r.place)) (judged rs) ≡ cond h (first_broken rs) (Refused r.number r.place)
+        → earlier (cond h Accepted (refused r.number r.place)) (judged rs) ≡ cond h (first_broken rs) (refused r.number r.place)
     by t rest true = rest t.1
     by t rest false = stays r.number r.place (judged rs) (late_judged r.number r.place rs t.0)
 
 -- The rules of a table in order, one behind the other, each unless one before it was broken.
-broken_stays : (n p : ℕ) (rs : List Rule) → foldl unless (Refused n p) rs ≡ Refused n p
+broken_stays : (n p : ℕ) (rs : List Rule) → foldl unless (refused n p) rs ≡ refused n p
 broken_stays n p [] = refl
 broken_stays n p (r ∷ rs) = broken_stays n p rs
 
@@ -145,7 +132,7 @@ first_of [] = refl
 first_of (r ∷ rs) = by (first_of rs) r.holds
   where
     by : foldl unless Accepted rs ≡ first_broken rs → (h : Bool)
-        → foldl unless (cond h Accepted (Refused r.number r.place)) rs ≡ cond h (first_broken rs) (Refused r.number r.place)
+        → foldl unless (cond h Accepted (refused r.number r.place)) rs ≡ cond h (first_broken rs) (refused r.number r.place)
     by rest true = rest
     by rest false = broken_stays r.number r.place rs
 
@@ -158,35 +145,35 @@ kept {t} e f = sym e ∙ not-false t f
 
 abbrev accepted : Answer → Bool
 accepted Accepted = true
-accepted (Refused n p) = false
+accepted (Err f) = false
 
-pub no_accepted : {n p : ℕ} → Refused n p ≡ Accepted → ⊥
+pub no_accepted : {n p : ℕ} → refused n p ≡ Accepted → ⊥
 no_accepted e = no (ap accepted e)
 
 -- A rule behind an answer: nothing is refused where neither was.
 pub unless_accepted : (a : Answer) (r : Rule) → unless a r ≡ Accepted → (a ≡ Accepted) × (r.holds ≡ true)
 unless_accepted Accepted r e = (refl, by r.holds e)
   where
-    by : (b : Bool) → cond b Accepted (Refused r.number r.place) ≡ Accepted → b ≡ true
+    by : (b : Bool) → cond b Accepted (refused r.number r.place) ≡ Accepted → b ≡ true
     by true x = refl
     by false x = absurd (no_accepted x)
-unless_accepted (Refused n p) r e = absurd (no_accepted e)
+unless_accepted (Err f) r e = absurd (no_accepted e)
 
 pub all_hold : (rs : List Rule) → judged rs ≡ Accepted → Hold rs
 all_hold [] e = tt
 all_hold (r ∷ rs) e = let h = both-accepted r.holds (judged rs) e in (h.0, all_hold rs h.1)
   where
-    refused : (a : Answer) → earlier (Refused r.number r.place) a ≡ Accepted → ⊥
-    refused Accepted e = no_accepted e
-    refused (Refused m q) e = by (before m q r.number r.place) e
+    not_accepted : (a : Answer) → earlier (refused r.number r.place) a ≡ Accepted → ⊥
+    not_accepted Accepted e = no_accepted e
+    not_accepted (Err f) e = by (before f.number f.place r.number r.place) e
       where
-        by : (b : Bool) → cond b (Refused m q) (Refused r.number r.place) ≡ Accepted → ⊥
+        by : (b : Bool) → cond b (Err f) (refused r.number r.place) ≡ Accepted → ⊥
         by true e = no_accepted e
         by false e = no_accepted e
 
-    both-accepted : (h : Bool) (a : Answer) → earlier (cond h Accepted (Refused r.number r.place)) a ≡ Accepted → (h ≡ true) × (a ≡ Accepted)
+    both-accepted : (h : Bool) (a : Answer) → earlier (cond h Accepted (refused r.number r.place)) a ≡ Accepted → (h ≡ true) × (a ≡ Accepted)
     both-accepted true a e = (refl, e)
-    both-accepted false a e = absurd (refused a e)
+    both-accepted false a e = absurd (not_accepted a e)
 
 -- A rule of such a table, by its number and place.
 held : (n p : ℕ) (rs : List Rule) → Hold rs → holds_at n p rs ≡ true
@@ -215,17 +202,17 @@ both_accept rs ss e = let h = hold_each rs ss (all_hold (rs ++ ss) e) in (none_b
 -- What holds of 'accepted' and of the refusal by each rule of a table holds of what it answers.
 by_earlier : (P : Answer → Type 0) (a b : Answer) → P a → P b → P (earlier a b)
 by_earlier P Accepted b x y = y
-by_earlier P (Refused j p) Accepted x y = x
-by_earlier P (Refused j p) (Refused k q) x y = either P (before k q j p) (Refused k q) (Refused j p) y x
+by_earlier P (Err f) Accepted x y = x
+by_earlier P (Err f) (Err g) x y = either P (before g.number g.place f.number f.place) (Err g) (Err f) y x
 
 pub judged_by : (P : Answer → Type 0) → P Accepted → (rs : List Rule) → Each P rs → P (judged rs)
 judged_by P a [] e = a
 judged_by P a (r ∷ rs) e =
-    by_earlier P (answer_by r) (judged rs) (either P r.holds Accepted (Refused r.number r.place) a e.0) (judged_by P a rs e.1)
+    by_earlier P (answer_by r) (judged rs) (either P r.holds Accepted (refused r.number r.place) a e.0) (judged_by P a rs e.1)
 
 abbrev Within : ℕ → ℕ → Answer → Type 0
 Within m n Accepted = Unit {0}
-Within m n (Refused k p) = (2 ≤ k) × (k ≤ m) × (p ≤ n)
+Within m n (Err f) = (2 ≤ f.number) × (f.number ≤ m) × (f.place ≤ n)
 
 each_within : (m n : ℕ) (rs : List Rule) → T (within m n rs) → Each (Within m n) rs
 each_within m n [] t = tt
@@ -235,7 +222,7 @@ each_within m n (r ∷ rs) t =
     let p = both (leb r.place n) (within m n rs) h.1 in
     ((leb→le 2 r.number k.0, leb→le r.number m k.1, leb→le r.place n p.0), each_within m n rs p.1)
 
-pub judged_within : (m n : ℕ) (rs : List Rule) {k p : ℕ} → T (within m n rs) → judged rs ≡ Refused k p → (2 ≤ k) × (k ≤ m) × (p ≤ n)
+pub judged_within : (m n : ℕ) (rs : List Rule) {k p : ℕ} → T (within m n rs) → judged rs ≡ refused k p → (2 ≤ k) × (k ≤ m) × (p ≤ n)
 judged_within m n rs t e = subst (Within m n) e (judged_by (Within m n) tt rs (each_within m n rs t))
 
 pub within_both : (m n : ℕ) (rs ss : List Rule) → T (within m n rs) → T (within m n ss) → T (within m n (rs ++ ss))

@@ -6,20 +6,18 @@ use native.Mathlib.Nat.{le_refl}
 use borrow.Author.Tests.{lt-ltb, le-ltb}
 use lib.ListN.{length, take, drop}
 use lib.Seq.{take_all}
-use Rattle.answers.specs.Answers.{next}
+use Rattle.answers.specs.Answers.{next, Accepted, refused, Answer}
 use Rattle.answers.specs.Lending.{lent_after, room_for, then_room}
-use Rattle.answers.specs.declared.Answer.{Answer}
-use Rattle.answers.specs.declared.Answer.TheVariants.{Accepted, Refused}
 
 module _ (fault : Answer) (needed : ℕ) (new room : List ℕ) where
   -- a rule is broken
-  pub refuses : (n p : ℕ) → fault ≡ Refused n p → (Refused n p ≡ then_room fault needed room) × (room ≡ lent_after (then_room fault needed room) new room)
-  refuses n p e = let a : then_room fault needed room ≡ Refused n p = ap (λ (f : Answer). next f (room_for needed room)) e in (sym a, sym (ap (λ (x : Answer). lent_after x new room) a))
+  pub refuses : (n p : ℕ) → fault ≡ refused n p → (refused n p ≡ then_room fault needed room) × (room ≡ lent_after (then_room fault needed room) new room)
+  refuses n p e = let a : then_room fault needed room ≡ refused n p = ap (λ (f : Answer). next f (room_for needed room)) e in (sym a, sym (ap (λ (x : Answer). lent_after x new room) a))
 
   -- the room is too small
-  pub lacks_room : fault ≡ Accepted → length room < needed → (Refused 14 needed ≡ then_room fault needed room) × (room ≡ lent_after (then_room fault needed room) new room)
+  pub lacks_room : fault ≡ Accepted → length room < needed → (refused 14 needed ≡ then_room fault needed room) × (room ≡ lent_after (then_room fault needed room) new room)
   lacks_room e h =
-      let a : then_room fault needed room ≡ Refused 14 needed = ap (λ (f : Answer). next f (room_for needed room)) e ∙ simp (lt-ltb (length room) needed h) in
+      let a : then_room fault needed room ≡ refused 14 needed = ap (λ (f : Answer). next f (room_for needed room)) e ∙ simp (lt-ltb (length room) needed h) in
       (sym a, sym (ap (λ (x : Answer). lent_after x new room) a))
 
   -- it is done

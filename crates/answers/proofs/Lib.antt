@@ -1,5 +1,6 @@
 -- for the crates above
 pub mod ExampleLaws
+pub mod Faults
 pub mod Judging
 pub mod LendingLaws
 pub mod NumberLaws

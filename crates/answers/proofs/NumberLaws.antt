@@ -8,12 +8,11 @@ use native.Mathlib.Omega.{arith}
 use lib.Dec.{T, eqb, leb, ltb, eqb→eq, leb→le}
 use lib.ListN.{length}
 use Rattle.lists.proofs.Booleans.{both, either}
-use Rattle.answers.specs.Answers.{Rule, number_of, place_of, judged}
+use Rattle.answers.specs.Answers.{Rule, number_of, place_of, judged, Accepted, refused, Answer}
 use Rattle.answers.specs.Lending.{then_room}
 use Rattle.answers.specs.Numbers.{Among, OneOf, among, all_among}
 use Rattle.answers.specs.Tables.{Each}
-use Rattle.answers.specs.declared.Answer.{Answer}
-use Rattle.answers.specs.declared.Answer.TheVariants.{Accepted, Refused}
+use Rattle.std.specs.Prelude.{Err}
 use Rattle.answers.proofs.Judging.{judged_by}
 
 pub is_listed : (n p : ℕ) (places : List (ℕ × ℕ)) → T (among n p places) → Among n p places
@@ -39,14 +38,14 @@ table_listed places rs zero t = judged_by (OneOf places) (is_listed 0 0 places z
 pub room_listed : (places : List (ℕ × ℕ)) (fault : Answer) (needed : ℕ) (room : List ℕ)
     → T (among 0 0 places) → T (among 14 needed places) → OneOf places fault → OneOf places (then_room fault needed room)
 room_listed places Accepted needed room zero short f =
-    either (OneOf places) (ltb (length room) needed) (Refused 14 needed) Accepted (omega arith, is_listed 14 needed places short) (is_listed 0 0 places zero)
-room_listed places (Refused n p) needed room zero short f = f
+    either (OneOf places) (ltb (length room) needed) (refused 14 needed) Accepted (omega arith, is_listed 14 needed places short) (is_listed 0 0 places zero)
+room_listed places (Err g) needed room zero short f = f
 
 -- Such an answer's number and place are in the list, and it is accepted by number 0 alone.
 pub in_places : (places : List (ℕ × ℕ)) (a : Answer) → OneOf places a → Among (number_of a) (place_of a) places
 in_places places Accepted h = h
-in_places places (Refused n p) h = h.1
+in_places places (Err f) h = h.1
 
 pub by_0 : (places : List (ℕ × ℕ)) (a : Answer) → OneOf places a → number_of a ≡ 0 → a ≡ Accepted
 by_0 places Accepted h e = refl
-by_0 places (Refused n p) h e = absurd (let k = h.0 in omega arith)
+by_0 places (Err f) h e = absurd (let k = h.0 in omega arith)

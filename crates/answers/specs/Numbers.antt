@@ -1,9 +1,7 @@
 -- Which numbers and places are answered: a list of them, and answers that are in it.
 -- Proved: against `judged`, by `table_listed` (proofs/NumberLaws.antt).
-use Rattle.std.specs.Prelude.{ℕ, ◌≤◌, Bool, true, false, ◌&&◌, ◌||◌, List, [], ◌∷◌, ◌⊎◌, ◌≡◌, eqb, leb}
-use Rattle.answers.specs.Answers.{Rule}
-use Rattle.answers.specs.declared.Answer.{Answer}
-use Rattle.answers.specs.declared.Answer.TheVariants.{Accepted, Refused}
+use Rattle.std.specs.Prelude.{ℕ, ◌≤◌, Bool, true, false, ◌&&◌, ◌||◌, List, [], ◌∷◌, ◌⊎◌, ◌≡◌, eqb, leb, Err}
+use Rattle.answers.specs.Answers.{Rule, Accepted, Answer}
 
 -- A number with its place is in a list.
 abbrev pub Among : ℕ → ℕ → List (ℕ × ℕ) → Type 0
@@ -13,7 +11,7 @@ Among n p ((m, q) ∷ rest) = ((n ≡ m) × (p ≡ q)) ⊎ Among n p rest
 -- An answer's number and place are, and nothing is refused by number 0.
 abbrev pub OneOf : List (ℕ × ℕ) → Answer → Type 0
 OneOf places Accepted = Among 0 0 places
-OneOf places (Refused n p) = (1 ≤ n) × Among n p places
+OneOf places (Err f) = (1 ≤ f.number) × Among f.number f.place places
 
 -- The test that a number with its place is in a list, and that those of each rule of a table are.
 abbrev pub among : ℕ → ℕ → List (ℕ × ℕ) → Bool

@@ -1,9 +1,9 @@
 // Answers of a check: accepted, or refused with a number and a place.
 #![tactic(auto)]
 
-// Accepted, or refused with document 01's number and place.
-#[derive(Clone, Copy)]
-pub enum Answer {
-    Accepted,
-    Refused(u8, u64),
+// Why something is refused: document 01's number of the rule that is broken, and its place. A check answers `Result<(), Fault>`.
+#[derive(Clone, Copy, PartialEq, Eq)]
+pub struct Fault {
+    pub number: u8,
+    pub place: u64,
 }

@@ -1,42 +1,38 @@
-// Of two answers the one that is given, and an answer that goes on with a rule.
+// Of two answers the one that is given, and what a rule answers.
 #![tactic(auto)]
 
 ghost use Rattle.std.specs.Prelude.{◌≡◌};
-ghost use Rattle.answers.specs.Answers.{rule, earlier, unless};
+ghost use Rattle.answers.specs.Answers.{rule, answer_by, earlier};
 
-use answers::Answer;
+use answers::Fault;
 
 // Of two answers the one that is given: the lower place, and of two at one place the one with the smaller number.
-pub fn earlier(a: Answer, b: Answer) -> Answer
+pub fn earlier(a: Result<(), Fault>, b: Result<(), Fault>) -> Result<(), Fault>
     ensures { result ≡ earlier a b }
 {
-    let Answer::Refused(number, place) = a else {
+    let Err(first) = a else {
         return b;
     };
-    let Answer::Refused(n, p) = b else {
+    let Err(second) = b else {
         return a;
     };
-    if p < place {
-        return b;
+    if (second.place, second.number) < (first.place, first.number) {
+        b
+    } else {
+        a
     }
-    if place < p {
-        return a;
-    }
-    if n < number {
-        return b;
-    }
-    a
 }
 
-// An answer that goes on unless a rule is broken: rules in the order of their places and numbers are judged one behind the other.
-pub fn unless(answer: Answer, number: u8, place: u64, holds: bool) -> Answer
-    ensures { result ≡ unless answer (rule number place holds) }
+// The number of a rule is a number and no enum: document 01 names and orders its rules by numbers (`before`), and each table says its own.
+
+// What a rule answers: accepted where it holds, else its number and place. Rules in the order of their places and numbers are judged one behind
+// the other, with `and`.
+pub fn rule(number: u8, place: u64, holds: bool) -> Result<(), Fault>
+    ensures { result ≡ answer_by (rule number place holds) }
 {
-    if let Answer::Refused(_, _) = answer {
-        return answer;
-    }
     if holds {
-        return Answer::Accepted;
+        Ok(())
+    } else {
+        Err(Fault { number, place })
     }
-    Answer::Refused(number, place)
 }

@@ -9,10 +9,9 @@ use Rattle.lists.proofs.Booleans.{no}
 use Rattle.headers.specs.Headers.{header_of, words_in}
 use Rattle.headers.specs.Words.{word_at}
 use Rattle.headers.specs.declared.Header.{Header}
-use Rattle.progress.specs.Progress.{fresh}
+use Rattle.progress.specs.Progress.{fresh, Verdict}
 use Rattle.progress.specs.declared.Progress.{Progress}
-use Rattle.progress.specs.declared.Verdict.{Verdict}
-use Rattle.progress.specs.declared.Verdict.TheVariants.{Next, Stop}
+use Rattle.std.specs.Prelude.{Ok, Err}
 use Rattle.sequence.specs.Before.{judge_before}
 use Rattle.sequence.specs.Judging.{judge}
 use Rattle.sequence.proofs.Before.{judge_before_lem, frames_next}
@@ -41,10 +40,10 @@ Alike s ws = foldl step s ws ≡ foldl (step_by judge_before) s ws
 stopped_alike : (n place : ℕ) (ws : List ℕ) → Alike (stopped n place) ws
 stopped_alike n place ws = stays n place ws ∙ sym (stays_before n place ws)
 
-after_alike : (at next : ℕ) (v : Verdict) (ws : List ℕ) → ((q : Progress) → v ≡ Next q → Alike (going next q []) ws) → Alike (after at next v) ws
+after_alike : (at next : ℕ) (v : Verdict) (ws : List ℕ) → ((q : Progress) → v ≡ Ok q → Alike (going next q []) ws) → Alike (after at next v) ws
 unfolding after
-after_alike at next (Next q) ws h = h q refl
-after_alike at next (Stop n word) ws h = stopped_alike n (at + word) ws
+after_alike at next (Ok q) ws h = h q refl
+after_alike at next (Err f) ws h = stopped_alike f.number (at + f.place) ws
 
 -- one more word, by the tests of a step
 abbrev outcome : ℕ → Progress → List ℕ → ℕ → Bool → Bool → Bool → Bool → Bool → Verdict → Walk

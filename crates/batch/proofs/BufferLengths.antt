@@ -10,14 +10,14 @@ use Rattle.prediction.specs.Extents.{Exact}
 use Rattle.prediction.specs.declared.Extent.{Extent}
 use Rattle.progress.specs.Buffers.{Buffer, source, reconstructed, forward, backward, buffer_number, buffers, extent_of}
 use Rattle.progress.specs.declared.Progress.{Progress}
-use Rattle.progress.specs.declared.Verdict.{Verdict}
-use Rattle.progress.specs.declared.Verdict.TheVariants.{Next, Stop}
+use Rattle.std.specs.Prelude.{Ok, Err}
+use Rattle.answers.specs.Answers.{fault_at}
+use Rattle.batch.specs.declared.Refusal.TheVariants.{Short}
+use Rattle.progress.specs.Progress.{Verdict}
 use Rattle.batch.specs.Demand.{Reading, reading_of, KeepsOthers, IsLength, IsFirst, length_for, first_for, TooShort, AllEnough, NamesLowest, Demand3, Checked}
-use Rattle.batch.specs.Reports.{report_number, report_place, reportable, length_in, first_in, values_of, reported_of, measured, concluding, verdict_of, report}
+use Rattle.batch.specs.Reports.{report_number, report_place, reportable, length_in, first_in, values_of, reported_of, measured, concluding, verdict_of, report, Report}
 use Rattle.batch.specs.Touched.{Touched}
 use Rattle.batch.specs.declared.Lengths.{Lengths}
-use Rattle.batch.specs.declared.Report.{Report}
-use Rattle.batch.specs.declared.Report.TheVariants.{Accepted, Short}
 use Rattle.batch.specs.declared.Reported.{Reported}
 use Rattle.batch.proofs.Exactness.{touched_exact}
 use Rattle.batch.proofs.Measuring.{outcome}
@@ -30,19 +30,19 @@ pub passed_keeps : (r : Report) → report_number r ≡ 0 → KeepsOthers (readi
 passed_keeps r e = record { none_to_12 = λ h i. omega arith; not_27 = λ h. omega arith }
 
 -- A batch that keeps every rule but the one on buffer length has come to its END.
-pub kept_verdict : (l : Lengths) (ws : List ℕ) → KeepsOthers (reading_of (report l ws)) → (p : Progress) × (verdict_of ws ≡ Next p)
+pub kept_verdict : (l : Lengths) (ws : List ℕ) → KeepsOthers (reading_of (report l ws)) → (p : Progress) × (verdict_of ws ≡ Ok p)
 unfolding report
 kept_verdict l ws k = by (verdict_of ws) refl k
   where
-    by : (v : Verdict) → verdict_of ws ≡ v → KeepsOthers (reading_of (concluding l v)) → (p : Progress) × (verdict_of ws ≡ Next p)
-    by (Next p) e k = (p, e)
-    by (Stop n place) e k = absurd (broken (verdict_numbers ws n place e))
+    by : (v : Verdict) → verdict_of ws ≡ v → KeepsOthers (reading_of (concluding l v)) → (p : Progress) × (verdict_of ws ≡ Ok p)
+    by (Ok p) e k = (p, e)
+    by (Err f) e k = absurd (broken (verdict_numbers ws f.number f.place e))
       where
-        broken : ((1 ≤ n) × (n ≤ 12)) ⊎ (n ≡ 27) → ⊥
+        broken : ((1 ≤ f.number) × (f.number ≤ 12)) ⊎ (f.number ≡ 27) → ⊥
         broken (inl h) = k.none_to_12 h.0 h.1
         broken (inr h) = k.not_27 h
 
-verdict_measured : (ws : List ℕ) (p : Progress) → verdict_of ws ≡ Next p → (l : Lengths) → report l ws ≡ measured (reportable p) l
+verdict_measured : (ws : List ℕ) (p : Progress) → verdict_of ws ≡ Ok p → (l : Lengths) → report l ws ≡ measured (reportable p) l
 unfolding report
 verdict_measured ws p v l = ap (concluding l) v
 
@@ -67,11 +67,11 @@ exact_first {T} e x = by (eq-zero-or-pos e.end)
 -- What an operation makes of the answer to the whole batch: it leaves a refusal by 13 as it is, and may refuse an accepted batch by 14,
 -- for want of room.
 abbrev pub Accepts : Type 0 → Reported → Report → Type 0
-Accepts Room v r = (r ≡ Accepted v) ⊎ ((Room → ⊥) × (needed : ℕ) × (r ≡ Short 14 needed v))
+Accepts Room v r = (r ≡ Ok v) ⊎ ((Room → ⊥) × (needed : ℕ) × (r ≡ Err (Short (fault_at 14 needed) v)))
 
 pub record Settles (Room : Type 0) (settle : Report → Report) : Type 0 where
-  pub keeps_13 : (place : ℕ) (v : Reported) → settle (Short 13 place v) ≡ Short 13 place v
-  pub accepts : (v : Reported) → Accepts Room v (settle (Accepted v))
+  pub keeps_13 : (place : ℕ) (v : Reported) → settle (Err (Short (fault_at 13 place) v)) ≡ Err (Short (fault_at 13 place) v)
+  pub accepts : (v : Reported) → Accepts Room v (settle (Ok v))
 
 -- the check itself
 pub settles_nothing : Settles (Unit {0}) (λ r. r)
@@ -90,7 +90,7 @@ module _ (ws : List ℕ) (v : Reported) (Room : Type 0) (settle : Report → Rep
   reports : reported_of r ≡ values_of v
   reports = by (outcome v l)
     where
-      room : Accepts Room v (settle (Accepted v)) → measured v l ≡ Accepted v → reported_of r ≡ values_of v
+      room : Accepts Room v (settle (Ok v)) → measured v l ≡ Ok v → reported_of r ≡ values_of v
       room (inl s) m = ap reported_of (is ∙ ap settle m ∙ s)
       room (inr s) m = ap reported_of (is ∙ ap settle m ∙ s.2)
 
@@ -109,17 +109,17 @@ module _ (ws : List ℕ) (v : Reported) (Room : Type 0) (settle : Report → Rep
   first b = nth (length buffers + buffer_number b) ∙ (value_places v b).1
 
   -- every buffer is long enough, and nothing else is refused
-  all_long : AllEnough (reading_of r) l → r ≡ settle (Accepted v)
+  all_long : AllEnough (reading_of r) l → r ≡ settle (Ok v)
   all_long h = by (outcome v l)
     where
-      by : Outcome v l → r ≡ settle (Accepted v)
+      by : Outcome v l → r ≡ settle (Ok v)
       by (enough all m) = is ∙ ap settle m
       by (short c s low m) = absurd (let k = h c in let f = for c in omega arith)
 
   passing : Room → AllEnough (reading_of r) l → report_number r ≡ 0
   passing room h = by (settles.accepts v)
     where
-      by : Accepts Room v (settle (Accepted v)) → report_number r ≡ 0
+      by : Accepts Room v (settle (Ok v)) → report_number r ≡ 0
       by (inl s) = ap report_number (all_long h ∙ s)
       by (inr s) = absurd (s.0 room)
 
@@ -161,7 +161,7 @@ demand_by ws Room settle settles Answers answers l₀ kept =
       same_answer = λ l k r q a c h i. all_long ws v Room settle settles l r (is l r a) h ∙ sym (all_long ws v Room settle settles k q (is k q c) i);
     }
   where
-    ended : (p : Progress) × (verdict_of ws ≡ Next p)
+    ended : (p : Progress) × (verdict_of ws ≡ Ok p)
     ended = kept_verdict l₀ ws kept
 
     v : Reported

@@ -8,8 +8,8 @@ use native.Mathlib.Omega.{arith}
 use lib.ListN.{length}
 use Rattle.lists.proofs.Booleans.{no}
 use Rattle.fields.specs.Word.{flag}
-use Rattle.answers.specs.Answers.{judged}
-use Rattle.answers.specs.declared.Answer.TheVariants.{Accepted}
+use Rattle.answers.specs.Answers.{judged, Accepted}
+use Rattle.std.specs.Prelude.{Ok}
 use Rattle.headers.specs.Headers.{begins}
 use Rattle.headers.specs.declared.Header.{Header}
 use Rattle.headers.specs.declared.Opcode.{Opcode}
@@ -18,7 +18,6 @@ use Rattle.picture.specs.Pictures.{picture_of}
 use Rattle.picture.specs.Surfaces.{surface_of}
 use Rattle.progress.specs.Progress.{fresh}
 use Rattle.progress.specs.declared.Progress.{Progress}
-use Rattle.progress.specs.declared.Verdict.TheVariants.{Next}
 use Rattle.placement.proofs.PositionLaws.{own_position, in_group, position_of}
 use Rattle.sequence.specs.Judging.{rules_of, next_of, judge}
 use Rattle.sequence.proofs.JudgingLaws.{goes_on}
@@ -99,7 +98,7 @@ pub picture_kept : (p : Progress) (cs : List Command) (q : Progress) → Run p c
 picture_kept = said_kept Picture picture_of (λ p. p.picture) (λ p. p.stage.pictured) pictures_once
 
 -- Every progress on the way is sound, and the count is that of the list's MACROBLOCK commands.
-pub next_sound : (p : Progress) (c : Command) (t : Progress) → judge c.header p c.words ≡ Next t → Sound p
+pub next_sound : (p : Progress) (c : Command) (t : Progress) → judge c.header p c.words ≡ Ok t → Sound p
     → Sound t × (have_come t ≡ have_come p + flag (begins Macroblock c.header))
 next_sound p c t j s =
     let n = goes_on c.header p c.words t j in

@@ -18,7 +18,7 @@ use Rattle.macroblock.specs.Macroblocks.{macroblock_of}
 use Rattle.progress.specs.Buffers.{Buffer, source, reconstructed, forward, backward, extent_of}
 use Rattle.progress.specs.Progress.{fresh}
 use Rattle.progress.specs.declared.Progress.{Progress}
-use Rattle.progress.specs.declared.Verdict.TheVariants.{Next}
+use Rattle.std.specs.Prelude.{Ok}
 use Rattle.placement.specs.Progressing.{macroblock_next}
 use Rattle.placement.specs.Touching.{references_in, TouchedBy}
 use Rattle.placement.proofs.PositionLaws.{in_group, position_of}
@@ -47,7 +47,7 @@ module _ (b : Buffer) where
   From s w j (m ∷ ms) byte = By s (position_in w j) m byte ⊎ From s w (j + 1) ms byte
 
   -- a MACROBLOCK command of a run
-  macroblock_exact : (p : Progress) (c : Command) (t : Progress) → judge c.header p c.words ≡ Next t → Sound p → begins Macroblock c.header ≡ true
+  macroblock_exact : (p : Progress) (c : Command) (t : Progress) → judge c.header p c.words ≡ Ok t → Sound p → begins Macroblock c.header ≡ true
       → {Before : ℕ → Type 0} → Exact Before (extent_of b p.extents)
       → (p.stage.pictured ≡ true) × Exact (λ (byte : ℕ). Before byte ⊎ By p.frame.surface (position_in p.picture.grid.columns (have_come p)) c.words byte) (extent_of b t.extents)
   macroblock_exact p c t j s e {Before} before =

@@ -6,9 +6,8 @@ use Prim.Native.Nat.{◌≤◌, ◌<◌}
 use native.Mathlib.Omega.{arith}
 use borrow.Author.Tests.{leb-true, leb-false}
 use lib.Dec.{leb}
-use Rattle.answers.specs.Answers.{Rule, rule, judged}
-use Rattle.answers.specs.declared.Answer.{Answer}
-use Rattle.answers.specs.declared.Answer.TheVariants.{Accepted, Refused}
+use Rattle.answers.specs.Answers.{Rule, rule, judged, Accepted, Answer}
+use Rattle.std.specs.Prelude.{Err}
 use Rattle.answers.proofs.Judging.{in_order}
 use Rattle.progress.specs.Buffers.{Buffer, source, reconstructed, forward, backward, buffer_number}
 use Rattle.batch.specs.Reports.{report_number, report_place, length_in, length_of, buffer_rules, reporting, measured}
@@ -86,4 +85,4 @@ ends_alone r q l same =
   where
     by : (a : Answer) → (report_number (reporting r a) ≡ report_number (reporting q a)) × (report_place (reporting r a) ≡ report_place (reporting q a))
     by Accepted = (refl, refl)
-    by (Refused n place) = (refl, refl)
+    by (Err f) = (refl, refl)

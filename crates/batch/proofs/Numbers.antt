@@ -14,15 +14,16 @@ use Rattle.headers.specs.Words.{word_at}
 use Rattle.headers.specs.declared.Header.{Header}
 use Rattle.progress.specs.Buffers.{Buffer, source, reconstructed, forward, backward, buffer_number}
 use Rattle.progress.specs.declared.Progress.{Progress}
-use Rattle.progress.specs.declared.Verdict.{Verdict}
-use Rattle.progress.specs.declared.Verdict.TheVariants.{Next, Stop}
+use Rattle.std.specs.Prelude.{Ok, Err}
+use Rattle.answers.specs.Answers.{fault_at}
+use Rattle.answers.proofs.Faults.{same_number, same_place}
+use Rattle.progress.specs.Progress.{Verdict}
 use Rattle.sequence.specs.Judging.{judge}
 use Rattle.sequence.proofs.JudgingLaws.{stops_within, stops_inside}
 use Rattle.batch.specs.Numbers.{RefusedBy, run_out, broken, too_many, CheckedBy, accepted, refused, short_buffer}
 use Rattle.batch.specs.Reports.{report_number, report_place, reportable, measured, ending, concluding, finish, verdict_of, report}
 use Rattle.batch.specs.Walk.{Walk, going, stopped, limit, after, step, start}
 use Rattle.batch.specs.declared.Lengths.{Lengths}
-use Rattle.batch.specs.declared.Report.TheVariants as answers
 use Rattle.batch.specs.declared.Reported.{Reported}
 use Rattle.batch.proofs.Measuring.{outcome}
 use Rattle.batch.proofs.WalkLaws.{Counted, counted_step, counted_fold}
@@ -41,10 +42,10 @@ later k n place (inl h) = inl (h.0, h.1, omega (arith, h.2))
 later k n place (inr h) = inr h
 
 -- a command that was judged
-numbered_after : (k at next : ℕ) (v : Verdict) → ((n w : ℕ) → v ≡ Stop n w → (2 ≤ n) × (n ≤ 12) × (at + w < k)) → Numbered k (after at next v)
+numbered_after : (k at next : ℕ) (v : Verdict) → ((n w : ℕ) → v ≡ Err (fault_at n w) → (2 ≤ n) × (n ≤ 12) × (at + w < k)) → Numbered k (after at next v)
 unfolding after
-numbered_after k at next (Next q) h = tt
-numbered_after k at next (Stop n w) h = inl (h n w refl)
+numbered_after k at next (Ok q) h = tt
+numbered_after k at next (Err f) h = inl (h f.number f.place refl)
 
 numbered_step : (k : ℕ) (s : Walk) (w : ℕ) → Counted k s → Numbered k s → Numbered (k + 1) (step s w)
 unfolding step
@@ -84,24 +85,24 @@ numbered_fold k s (w ∷ ws) e h =
     rw sum (numbered_fold (k + 1) (step s w) ws (counted_step k s w e) (numbered_step k s w e h))
 
 -- A batch is refused by one of its rules, by 27, or, where it lacks END, by 1 at the words given.
-pub refused_by : (ws : List ℕ) (n place : ℕ) → verdict_of ws ≡ Stop n place → RefusedBy (length ws) n place
+pub refused_by : (ws : List ℕ) (n place : ℕ) → verdict_of ws ≡ Err (fault_at n place) → RefusedBy (length ws) n place
 unfolding verdict_of
 refused_by ws n place e = by (foldl step start ws) (rw zero-add at (counted_fold 0 start ws refl)) (rw zero-add at (numbered_fold 0 start ws refl tt)) e
   where
-    lacks : (p : Progress) (at : ℕ) → at ≡ length ws → (ended : Bool) → cond ended (Next p) (Stop 1 at) ≡ Stop n place → RefusedBy (length ws) n place
+    lacks : (p : Progress) (at : ℕ) → at ≡ length ws → (ended : Bool) → cond ended (Ok p) (Err (fault_at 1 at)) ≡ Err (fault_at n place) → RefusedBy (length ws) n place
     lacks p at all true e = let z : ◌≡◌ {A = ℕ} 0 1 = cc in absurd (omega arith)
-    lacks p at all false e = let i : 1 ≡ n = cc in let j : at ≡ place = cc in run_out (sym i) (sym j ∙ all)
+    lacks p at all false e = let i : 1 ≡ n = same_number e in let j : at ≡ place = same_place e in run_out (sym i) (sym j ∙ all)
 
     stops : StopNumber (length ws) n place → RefusedBy (length ws) n place
     stops (inl k) = broken k.0 k.1 k.2
     stops (inr k) = too_many k.0 k.1
 
-    by : (s : Walk) → Counted (length ws) s → Numbered (length ws) s → ending s ≡ Stop n place → RefusedBy (length ws) n place
-    by (stopped m q) c k e = let i : m ≡ n = cc in let j : q ≡ place = cc in stops (rw (i, j) at k)
+    by : (s : Walk) → Counted (length ws) s → Numbered (length ws) s → ending s ≡ Err (fault_at n place) → RefusedBy (length ws) n place
+    by (stopped m q) c k e = let i : m ≡ n = same_number e in let j : q ≡ place = same_place e in stops (rw (i, j) at k)
     by (going at p g) c k e = lacks p (at + length g) c p.stage.ended e
 
 -- The number is none but 1 to 12 and 27.
-pub verdict_numbers : (ws : List ℕ) (n place : ℕ) → verdict_of ws ≡ Stop n place → ((1 ≤ n) × (n ≤ 12)) ⊎ (n ≡ 27)
+pub verdict_numbers : (ws : List ℕ) (n place : ℕ) → verdict_of ws ≡ Err (fault_at n place) → ((1 ≤ n) × (n ≤ 12)) ⊎ (n ≡ 27)
 verdict_numbers ws n place e = by (refused_by ws n place e)
   where
     by : RefusedBy (length ws) n place → ((1 ≤ n) × (n ≤ 12)) ⊎ (n ≡ 27)
@@ -125,15 +126,15 @@ check_numbers l ws = by (verdict_of ws) refl
     measures r (short c s low a) = short_buffer (ap report_number a) (rw (ap report_place a) (buffer c))
 
     by : (v : Verdict) → verdict_of ws ≡ v → CheckedBy (length ws) (report_number (concluding l v)) (report_place (concluding l v))
-    by (Next p) s = measures (reportable p) (outcome (reportable p) l)
-    by (Stop n place) s = refused (refused_by ws n place s)
+    by (Ok p) s = measures (reportable p) (outcome (reportable p) l)
+    by (Err f) s = refused (refused_by ws f.number f.place s)
 
 -- A batch is accepted by number 0 alone.
-pub accepted_by_0 : (l : Lengths) (ws : List ℕ) → report_number (report l ws) ≡ 0 → (r : Reported) × (report l ws ≡ answers.Accepted r)
+pub accepted_by_0 : (l : Lengths) (ws : List ℕ) → report_number (report l ws) ≡ 0 → (r : Reported) × (report l ws ≡ Ok r)
 unfolding report
 accepted_by_0 l ws h = by (verdict_of ws) refl h
   where
-    measured-0 : (r : Reported) → Outcome r l → report_number (measured r l) ≡ 0 → (x : Reported) × (measured r l ≡ answers.Accepted x)
+    measured-0 : (r : Reported) → Outcome r l → report_number (measured r l) ≡ 0 → (x : Reported) × (measured r l ≡ Ok x)
     measured-0 r (enough all a) h = (r, a)
     measured-0 r (short c s low a) h = let z : ◌≡◌ {A = ℕ} 13 0 = sym (ap report_number a) ∙ h in absurd (omega arith)
 
@@ -142,9 +143,9 @@ accepted_by_0 l ws h = by (verdict_of ws) refl h
     stopped-0 n place (broken low high at) h = omega arith
     stopped-0 n place (too_many i at) h = omega arith
 
-    by : (v : Verdict) → verdict_of ws ≡ v → report_number (concluding l v) ≡ 0 → (r : Reported) × (concluding l v ≡ answers.Accepted r)
-    by (Next p) s h = measured-0 (reportable p) (outcome (reportable p) l) h
-    by (Stop n place) s h = absurd (stopped-0 n place (refused_by ws n place s) h)
+    by : (v : Verdict) → verdict_of ws ≡ v → report_number (concluding l v) ≡ 0 → (r : Reported) × (concluding l v ≡ Ok r)
+    by (Ok p) s h = measured-0 (reportable p) (outcome (reportable p) l) h
+    by (Err f) s h = absurd (stopped-0 f.number f.place (refused_by ws f.number f.place s) h)
 
 -- A walk that goes on is answered by 0, 1 or 13: nothing is refused for good.
 pub going_numbers : (l : Lengths) (at : ℕ) (p : Progress) (g : List ℕ) (n : ℕ) → report_number (finish l (going at p g)) ≡ n → (n ≡ 0) ⊎ ((n ≡ 1) ⊎ (n ≡ 13))
@@ -155,6 +156,6 @@ going_numbers l at p g n e = by p.stage.ended e
     lengths (enough all a) e = inl (sym e ∙ ap report_number a)
     lengths (short c s low a) e = inr (inr (sym e ∙ ap report_number a))
 
-    by : (ended : Bool) → report_number (concluding l (cond ended (Next p) (Stop 1 (at + length g)))) ≡ n → (n ≡ 0) ⊎ ((n ≡ 1) ⊎ (n ≡ 13))
+    by : (ended : Bool) → report_number (concluding l (cond ended (Ok p) (Err (fault_at 1 (at + length g))))) ≡ n → (n ≡ 0) ⊎ ((n ≡ 1) ⊎ (n ≡ 13))
     by true e = lengths (outcome (reportable p) l) e
     by false e = inr (inl (sym e))

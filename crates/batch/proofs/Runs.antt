@@ -13,10 +13,10 @@ use Rattle.lists.proofs.Booleans.{no}
 use Rattle.headers.specs.Headers.{header_of, words_in, look_up, table}
 use Rattle.headers.specs.Words.{word_at}
 use Rattle.headers.specs.declared.Header.{Header}
-use Rattle.progress.specs.Progress.{fresh}
+use Rattle.progress.specs.Progress.{fresh, Verdict}
 use Rattle.progress.specs.declared.Progress.{Progress}
-use Rattle.progress.specs.declared.Verdict.{Verdict}
-use Rattle.progress.specs.declared.Verdict.TheVariants.{Next, Stop}
+use Rattle.std.specs.Prelude.{Ok, Err}
+use Rattle.answers.specs.Answers.{fault_at}
 use Rattle.sequence.specs.Judging.{judge}
 use Rattle.sequence.proofs.SequenceLaws.{noop_passes}
 use Rattle.commands.specs.Commands.{Command, cut, commands_of}
@@ -47,8 +47,8 @@ module _ (w : ℕ) (ws : List ℕ) (at' : ℕ) (q : Progress) (g' : List ℕ)
   whole : (at : ℕ) (p : Progress) (c : Command) (v : Verdict) (n : ℕ) → judge c.header p c.words ≡ v → foldl step (after at n v) ws ≡ going at' q g'
       → Run p (c ∷ cut n [] ws) q
   unfolding after
-  whole at p c (Next t) n j e = (t, j, rest n t [] (inl refl) e)
-  whole at p c (Stop m word) n j e = absurd (refused m (at + word) ws e)
+  whole at p c (Ok t) n j e = (t, j, rest n t [] (inl refl) e)
+  whole at p c (Err f) n j e = absurd (refused f.number (at + f.place) ws e)
 
   -- one word of a command
   one_word : (at : ℕ) (p : Progress) (g : List ℕ) → p.stage.ended ≡ false
@@ -104,18 +104,18 @@ unfolding commands_of
 batch_runs ws at q g e = walk_runs 0 fresh [] ws at q g (inl refl) e
 
 -- A batch that keeps the rules, the buffers apart, has gone through its words, and END has come.
-pub gone_through : (ws : List ℕ) (p : Progress) → verdict_of ws ≡ Next p
+pub gone_through : (ws : List ℕ) (p : Progress) → verdict_of ws ≡ Ok p
     → (at : ℕ) × (g : List ℕ) × (foldl step start ws ≡ going at p g) × (p.stage.ended ≡ true)
 unfolding verdict_of
 gone_through ws p e = by (foldl step start ws) refl e
   where
     ended : (at : ℕ) (q : Progress) (g : List ℕ) (t : Bool) → q.stage.ended ≡ t → foldl step start ws ≡ going at q g
-        → cond t (Next q) (Stop 1 (at + length g)) ≡ Next p
+        → cond t (Ok q) (Err (fault_at 1 (at + length g))) ≡ Ok p
         → (at : ℕ) × (g : List ℕ) × (foldl step start ws ≡ going at p g) × (p.stage.ended ≡ true)
     ended at q g true t s e = let i : q ≡ p = cc in (at, g, s ∙ ap (λ (x : Progress). going at x g) i, ap (λ (x : Progress). x.stage.ended) (sym i) ∙ t)
     ended at q g false t s e = let z : ◌≡◌ {A = ℕ} 0 1 = cc in absurd (omega arith)
 
-    by : (s : Walk) → foldl step start ws ≡ s → ending s ≡ Next p
+    by : (s : Walk) → foldl step start ws ≡ s → ending s ≡ Ok p
         → (at : ℕ) × (g : List ℕ) × (foldl step start ws ≡ going at p g) × (p.stage.ended ≡ true)
     by (stopped n place) s e = let z : ◌≡◌ {A = ℕ} 0 1 = cc in absurd (omega arith)
     by (going at q g) s e = ended at q g q.stage.ended refl s e

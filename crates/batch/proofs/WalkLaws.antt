@@ -15,12 +15,11 @@ use Rattle.headers.specs.declared.Header.{Header}
 use Rattle.headers.proofs.HeaderLaws.{words_few}
 use Rattle.progress.specs.declared.Progress.{Progress}
 use Rattle.sequence.specs.Judging.{judge}
-use Rattle.progress.specs.declared.Verdict.{Verdict}
-use Rattle.progress.specs.declared.Verdict.TheVariants.{Next, Stop}
+use Rattle.std.specs.Prelude.{Ok, Err}
+use Rattle.progress.specs.Progress.{Verdict}
 use Rattle.commands.specs.Commands.{next_in, by_next}
 use Rattle.commands.proofs.Gathering.{gathered, first_whole, by_next_lem}
 use Rattle.batch.specs.Walk.{Walk, going, stopped, limit, after, step, walk_of}
-use Rattle.batch.specs.declared.Walked.TheVariants.{Going}
 
 -- After a refusal nothing changes.
 pub stays : (n place : ℕ) (ws : List ℕ) → foldl step (stopped n place) ws ≡ stopped n place
@@ -87,8 +86,8 @@ by_test P false a b x y = y refl
 by_verdict : (P : Walk → Type 0) (at next : ℕ) (v : Verdict) → ((n place : ℕ) → P (stopped n place)) → ((q : Progress) → P (going next q []))
     → P (after at next v)
 unfolding after
-by_verdict P at next (Next q) x y = y q
-by_verdict P at next (Stop n word) x y = x n (at + word)
+by_verdict P at next (Ok q) x y = y q
+by_verdict P at next (Err f) x y = x f.number (at + f.place)
 
 -- One more word refuses, ends a command or is gathered.
 pub one_word : (P : Walk → Type 0) (at : ℕ) (p : Progress) (g : List ℕ) (w : ℕ)
@@ -156,7 +155,7 @@ within_limit at p g ws at' p' g' h e = subst Within e (within_fold (going at p g
 
 -- Whole commands take no more words than there are.
 pub used_within : (base : ℕ) (p : Progress) (ws : List ℕ) (p' : Progress) (used : ℕ)
-    → walk_of base ws (Going p' used) ≡ foldl step (going base p []) ws → used ≤ length ws
+    → walk_of base ws (Ok (record { progress = p'; used = used })) ≡ foldl step (going base p []) ws → used ≤ length ws
 used_within base p ws p' used e =
     let all = counted base p [] ws (base + used) p' (drop used ws) (sym e) in
     let rest = length-drop used ws in

@@ -2,9 +2,8 @@
 -- To be believed: numbers, places, lengths and first bytes are worked out by hand from document 01 and from R-3, R-6 and R-8 of
 -- document 02.
 use Rattle.std.specs.Prelude.{ℕ, ◌+◌, List, [], ◌∷◌, ◌++◌, length, take, drop, set, replicate}
-use Rattle.batch.specs.Reports.{report_number, report_place, reported_of, report}
+use Rattle.batch.specs.Reports.{report_number, report_place, reported_of, report, Report}
 use Rattle.batch.specs.declared.Lengths.{Lengths}
-use Rattle.batch.specs.declared.Report.{Report}
 
 -- Words beside four lengths, and what is due to them: number, place, and the four lengths and four first bytes reported.
 pub record BatchCase : Type 0 where

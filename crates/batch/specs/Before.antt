@@ -8,12 +8,11 @@ use Rattle.headers.specs.Words.{word_at}
 use Rattle.headers.specs.declared.Header.{Header}
 use Rattle.headers.specs.declared.Opcode.TheVariants.{Picture}
 use Rattle.progress.specs.declared.Progress.{Progress}
-use Rattle.progress.specs.declared.Verdict.{Verdict}
+use Rattle.progress.specs.Progress.{Verdict}
 use Rattle.sequence.specs.Before.{judge_before}
 use Rattle.commands.specs.Commands.{Command}
 use Rattle.batch.specs.declared.Lengths.{Lengths}
-use Rattle.batch.specs.declared.Report.{Report}
-use Rattle.batch.specs.Reports.{ending, concluding}
+use Rattle.batch.specs.Reports.{ending, concluding, Report}
 use Rattle.batch.specs.Walk.{Walk, going, stopped, limit, after, start}
 
 -- The walk of specs/Walk.antt over any judge of commands. With `judge` it is `step` itself, by `step_by_judge` (proofs/Before.antt).

@@ -3,10 +3,9 @@
 -- To be believed: the demand's sentences and R-8's, one by one.
 use Rattle.std.specs.Prelude.{ℕ, ◌+◌, ◌≤◌, ◌<◌, List, ◌⊎◌, ◌≡◌, length, get_or}
 use Rattle.progress.specs.Buffers.{Buffer, buffer_number, buffers}
-use Rattle.batch.specs.Reports.{report_number, report_place, reported_of, length_of, report}
+use Rattle.batch.specs.Reports.{report_number, report_place, reported_of, length_of, report, Report}
 use Rattle.batch.specs.Touched.{Touched}
 use Rattle.batch.specs.declared.Lengths.{Lengths}
-use Rattle.batch.specs.declared.Report.{Report}
 
 -- How an answer is read, of whichever type it is. Document 01: "the answer is the number, the place and all that is reported with them".
 pub record Reading : Type 0 where

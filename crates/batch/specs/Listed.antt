@@ -1,14 +1,12 @@
 -- What the list of commands says of a batch that was not refused.
 -- To be believed: where a theorem is stated by it. It is proved of every walk that was not refused, by `listed` (proofs/CommandList.antt).
-use Rattle.std.specs.Prelude.{List, [], ◌∷◌, ◌≡◌, true, ℕ, ◌*◌, ◌/◌, ◌%◌, ◌≤◌, ◌<◌, length, get_or}
+use Rattle.std.specs.Prelude.{List, [], ◌∷◌, ◌≡◌, true, ℕ, ◌*◌, ◌/◌, ◌%◌, ◌≤◌, ◌<◌, length, get_or, Ok}
 use Rattle.progress.specs.declared.Progress.{Progress}
-use Rattle.progress.specs.declared.Verdict.TheVariants.{Next}
 use Rattle.sequence.specs.Judging.{judge}
 use Rattle.commands.specs.Commands.{Command, commands_of, macroblocks_in, batch_frame, batch_picture, how_many}
 use Rattle.macroblock.specs.Macroblocks.{macroblock_of}
 use Rattle.headers.specs.declared.Opcode.TheVariants.{Surface, Picture}
-use Rattle.answers.specs.Answers.{judged}
-use Rattle.answers.specs.declared.Answer.TheVariants.{Accepted}
+use Rattle.answers.specs.Answers.{judged, Accepted}
 use Rattle.headers.specs.Headers.{macroblock_header}
 use Rattle.headers.specs.Words.{word_at}
 use Rattle.macroblock.specs.Rules.{alone, command_rules}
@@ -17,7 +15,7 @@ use Rattle.sequence.specs.Sound.{have_come}
 -- From progress `p` to progress `q` by commands, none of which is refused.
 abbrev pub Run : Progress → List Command → Progress → Type 0
 Run p [] q = p ≡ q
-Run p (c ∷ cs) q = (t : Progress) × (judge c.header p c.words ≡ Next t) × Run t cs q
+Run p (c ∷ cs) q = (t : Progress) × (judge c.header p c.words ≡ Ok t) × Run t cs q
 
 -- What the list of commands says of a walk that was not refused.
 pub record Listed (ws : List ℕ) (p : Progress) : Type 0 where

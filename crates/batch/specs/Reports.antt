@@ -1,31 +1,32 @@
 -- What the checker answers: document 01's number and place, and what it reports.
 -- To be believed: numbers, places and what is reported with them; 13 after the whole batch.
-use Rattle.std.specs.Prelude.{ℕ, ◌+◌, cond, leb, length}
+use Rattle.std.specs.Prelude.{ℕ, ◌+◌, cond, leb, length, Ok, Err, Result}
+use Rattle.batch.specs.declared.Refusal.{Refusal}
 use mathlib.Core.List.{List, ◌++◌, foldl, map}
-use Rattle.answers.specs.Answers.{Rule, rule, judged}
-use Rattle.answers.specs.declared.Answer.{Answer}
-use Rattle.answers.specs.declared.Answer.TheVariants.{Accepted, Refused}
+use Rattle.answers.specs.Answers.{Rule, rule, judged, Accepted, fault_at, Answer}
+use Rattle.batch.specs.declared.Refusal.TheVariants.{Short, Broken}
+use Rattle.progress.specs.Progress.{Verdict}
 use Rattle.progress.specs.Buffers.{Buffer, source, reconstructed, forward, backward, buffer_number, buffers, extent_of}
 use Rattle.progress.specs.declared.Extents.{Extents}
 use Rattle.progress.specs.declared.Progress.{Progress}
-use Rattle.progress.specs.declared.Verdict.{Verdict}
-use Rattle.progress.specs.declared.Verdict.TheVariants.{Next, Stop}
 use Rattle.batch.specs.declared.Lengths.{Lengths}
-use Rattle.batch.specs.declared.Report.{Report}
 use Rattle.batch.specs.declared.Reported.{Reported}
-use Rattle.batch.specs.declared.Report.TheVariants as answers
 use Rattle.batch.specs.Walk.{Walk, going, stopped, step, start}
+
+-- What the checker answers: what is reported, or why the batch is refused.
+abbrev pub Report : Type 0
+Report = Result Reported Refusal
 
 -- Document 01's number and place of each answer. "0 accepted: place 0".
 abbrev pub report_number : Report → ℕ
-report_number (answers.Accepted r) = 0
-report_number (answers.Short n place r) = n
-report_number (answers.Refused n place) = n
+report_number (Ok r) = 0
+report_number (Err (Short f r)) = f.number
+report_number (Err (Broken f)) = f.number
 
 abbrev pub report_place : Report → ℕ
-report_place (answers.Accepted r) = 0
-report_place (answers.Short n place r) = place
-report_place (answers.Refused n place) = place
+report_place (Ok r) = 0
+report_place (Err (Short f r)) = f.place
+report_place (Err (Broken f)) = f.place
 
 -- What is reported of a batch that has come so far with END; the length of a buffer in it and, document 02 (R-8), "its first touched byte
 -- (0 if untouched)".
@@ -49,9 +50,9 @@ values_of r = map (λ value. value r) values
 -- "The four lengths are reported with 0, 13 and 14, else zeros."; document 02 (R-8): "The first bytes are reported
 -- whenever the lengths are, else zeros".
 abbrev pub reported_of : Report → List ℕ
-reported_of (answers.Accepted r) = values_of r
-reported_of (answers.Short n place r) = values_of r
-reported_of (answers.Refused n place) = map (λ value. 0) values
+reported_of (Ok r) = values_of r
+reported_of (Err (Short f r)) = values_of r
+reported_of (Err (Broken f)) = map (λ value. 0) values
 
 -- How long a buffer is.
 abbrev pub length_of : Buffer → Lengths → ℕ
@@ -66,8 +67,8 @@ buffer_rules e l = map (λ b. rule 13 (buffer_number b) (leb (extent_of b e).end
 
 -- What is answered with what is reported.
 abbrev pub reporting : Reported → Answer → Report
-reporting r Accepted = answers.Accepted r
-reporting r (Refused n place) = answers.Short n place r
+reporting r Accepted = Ok r
+reporting r (Err f) = Err (Short f r)
 
 unfoldable pub measured : Reported → Lengths → Report
 measured r l = reporting r (judged (buffer_rules r.extents l))
@@ -75,13 +76,13 @@ measured r l = reporting r (judged (buffer_rules r.extents l))
 -- The buffers apart: the first rule that is broken, or how far the batch had come with END. "1 words run out in a command or before
 -- END: words given".
 abbrev pub ending : Walk → Verdict
-ending (stopped n place) = Stop n place
-ending (going at p g) = cond p.stage.ended (Next p) (Stop 1 (at + length g))
+ending (stopped n place) = Err (fault_at n place)
+ending (going at p g) = cond p.stage.ended (Ok p) (Err (fault_at 1 (at + length g)))
 
 -- "13 comes after the whole batch".
 abbrev pub concluding : Lengths → Verdict → Report
-concluding l (Next p) = measured (reportable p) l
-concluding l (Stop n place) = answers.Refused n place
+concluding l (Ok p) = measured (reportable p) l
+concluding l (Err f) = Err (Broken f)
 
 unfoldable pub finish : Lengths → Walk → Report
 finish l w = concluding l (ending w)

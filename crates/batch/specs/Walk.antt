@@ -1,18 +1,19 @@
 -- What a batch means: a fold over its words.
 -- To be believed: the order of commands and of 2, 1, 12 and 27. `walk_of` is the walk of what the code returns.
-use Rattle.std.specs.Prelude.{ℕ, ◌+◌, cond, List, [], ◌∷◌, ◌++◌, eqb, leb, length, drop}
-use Rattle.answers.specs.declared.Answer.{Answer}
-use Rattle.answers.specs.declared.Answer.TheVariants.{Accepted, Refused}
+use Rattle.std.specs.Prelude.{ℕ, ◌+◌, cond, List, [], ◌∷◌, ◌++◌, eqb, leb, length, drop, Ok, Err, Result}
+use Rattle.answers.specs.declared.Fault.{Fault}
+use Rattle.progress.specs.declared.Taken.{Taken}
+use Rattle.answers.specs.Answers.{Accepted, refused, Answer}
 use Rattle.headers.specs.Headers.{header_of, by_size}
 use Rattle.headers.specs.Words.{word_at}
 use Rattle.headers.specs.declared.Header.{Header}
-use Rattle.progress.specs.Progress.{fresh}
+use Rattle.progress.specs.Progress.{fresh, Verdict}
 use Rattle.progress.specs.declared.Progress.{Progress}
 use Rattle.sequence.specs.Judging.{judge}
-use Rattle.progress.specs.declared.Verdict.{Verdict}
-use Rattle.progress.specs.declared.Verdict.TheVariants.{Next, Stop}
-use Rattle.batch.specs.declared.Walked.{Walked}
-use Rattle.batch.specs.declared.Walked.TheVariants.{Stopped, Going}
+
+-- What a run of words came to: how far the batch has come and how many of the words whole commands took, or why it is refused.
+abbrev pub Walked : Type 0
+Walked = Result Taken Fault
 
 -- Document 01: "no word beyond the first 4294967295 is judged".
 abbrev pub limit : ℕ
@@ -27,12 +28,12 @@ pub data Walk : Type 0 where
 -- Document 01's number and place of a walk: 0 where it goes on.
 abbrev pub walk_answer : Walk → Answer
 walk_answer (going at p g) = Accepted
-walk_answer (stopped n place) = Refused n place
+walk_answer (stopped n place) = refused n place
 
 -- After a whole command that began at `at`; the next one begins at `next`. A rule is placed by its word of the command.
 unfoldable pub after : ℕ → ℕ → Verdict → Walk
-after at next (Next p) = going next p []
-after at next (Stop n word) = stopped n (at + word)
+after at next (Ok p) = going next p []
+after at next (Err f) = stopped f.number (at + f.place)
 
 -- The words that have come of a command, by what its first begins. Document 01: "a word that names no command stops the walk
 -- at once"; "Commands in order; in each 2, then 1, then 3, then words upwards": a command is judged when it is whole.
@@ -59,10 +60,10 @@ start = going 0 fresh []
 
 -- What a run of words `ws` from word `base` came to, as a walk: whole commands took the first words, the others are in progress.
 abbrev pub walk_of : ℕ → List ℕ → Walked → Walk
-walk_of base ws (Stopped n place) = stopped n place
-walk_of base ws (Going p used) = going (base + used) p (drop used ws)
+walk_of base ws (Err f) = stopped f.number f.place
+walk_of base ws (Ok f) = going (base + f.used) f.progress (drop f.used ws)
 
 -- Document 01's number and place of what a run of words came to: 0 where nothing is refused yet.
 abbrev pub walked_answer : Walked → Answer
-walked_answer (Stopped n place) = Refused n place
-walked_answer (Going p used) = Accepted
+walked_answer (Err f) = Err f
+walked_answer (Ok f) = Accepted

@@ -1,7 +1,8 @@
 // What the check of a batch of commands answers.
 #![tactic(auto)]
 
-use progress::{Extents, Progress};
+use answers::Fault;
+use progress::Extents;
 
 // The lengths in bytes of the four picture buffers that a batch is checked with.
 #[repr(C)]
@@ -22,18 +23,10 @@ pub struct Reported {
 // As how many numbers: document 01's four lengths, and document 02's four first bytes (R-8).
 pub const VALUES: usize = 8;
 
-// What the checker answers: accepted; refused because lent memory is too short (number and place), both with what is reported; or
-// refused by another rule (number and place), with nothing.
+// Why a batch is refused: a rule of its commands is broken, and nothing is reported; or lent memory is too short, and what is reported
+// stands beside it. The checker answers `Result<Reported, Refusal>`.
 #[derive(Clone, Copy)]
-pub enum Report {
-    Accepted(Reported),
-    Short(u8, u64, Reported),
-    Refused(u8, u64),
-}
-
-// What a run of words came to: refused, or the progress and how many of the words whole commands took.
-#[derive(Clone, Copy)]
-pub enum Walked {
-    Stopped(u8, u64),
-    Going(Progress, usize),
+pub enum Refusal {
+    Broken(Fault),
+    Short(Fault, Reported),
 }

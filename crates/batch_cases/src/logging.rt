@@ -1,7 +1,7 @@
 // Decoding a batch into a lent log, and printing what it holds afterwards.
-use crate::printing;
+use crate::printing::Shown;
 use batch::Lengths;
-use std::io;
+use std::{fmt, io};
 
 // What the log holds before: byte i is 37·i + 11, modulo 256.
 fn fill(log: &mut [u8]) {
@@ -12,19 +12,20 @@ fn fill(log: &mut [u8]) {
     }
 }
 
-fn print_byte(rt: &impl Print, byte: u8) -> io::Result<()> {
-    print!(rt; "{byte:02x}")
-}
+// Bytes in hexadecimal digits, or a dash for none.
+#[derive(Clone, Copy)]
+struct Hex<'a>(&'a [u8]);
 
-fn print_log(rt: &impl Print, log: &[u8]) -> io::Result<()> {
-    print!(rt; " ")?;
-    if log.len() == 0 {
-        print!(rt; "-")?;
+impl fmt::Display for Hex<'_> {
+    fn fmt<W: fmt::Write>(&self, f: &mut fmt::Formatter<W>) -> fmt::Result {
+        if self.0.is_empty() {
+            return write!(f, "-");
+        }
+        for byte in self.0 {
+            write!(f, "{byte:02x}")?;
+        }
+        Ok(())
     }
-    for byte in log {
-        print_byte(rt, *byte)?;
-    }
-    Ok(())
 }
 
 // Prints the report and the whole log afterwards, with no line end.
@@ -35,6 +36,6 @@ pub fn print_decoded(
     log: &mut [u8],
 ) -> io::Result<()> {
     fill(log);
-    printing::print_report(rt, decoding_code::decode(words, lengths, log))?;
-    print_log(rt, log)
+    let report = Shown::from(decoding_code::decode(words, lengths, log));
+    print!(rt; "{report} {}", Hex(log))
 }

@@ -11,96 +11,69 @@ mod logging;
 mod printing;
 mod reading;
 
-ghost use Rattle.std.specs.Prelude.{◌≡◌, length};
-
 use batch::Lengths;
-use reading::Head;
+use printing::Shown;
+use reading::{Case, Failure};
 use std::io;
 use std::io::Read;
 
-// Decodes into the first bytes of a log.
-fn decode(
+// Room for the longest stored batch.
+const WORDS: usize = 2000;
+
+// Room for the longest stored log.
+const LOG: usize = 2000;
+
+// Prints the line of a batch. Where an answer in parts is another, more stands behind it, so that the line is not the one due.
+fn print_line(
     rt: &impl Print,
     words: &[u32],
     lengths: Lengths,
-    log: &mut [u8],
-    bytes: usize,
+    lent: Option<u32>,
 ) -> io::Result<()> {
-    if log.len() < bytes {
-        return print!(rt; "log too long");
-    }
-    logging::print_decoded(rt, words, lengths, &mut log[..bytes])
-}
-
-// Room for the longest stored log. A call, so that no proof meets 2000 zeros.
-fn most_bytes() -> [u8; 2000]
-    ensures { 2000 ≡ length result }
-{
-    [0u8; 2000]
-}
-
-// Prints the line of a batch. Where an answer in parts is another, more stands behind it, so that the line is not the one due.
-fn print_line(rt: &impl Print, words: &[u32], lengths: Lengths, lent: u32) -> io::Result<()> {
-    let whole = batch_code::check(words, lengths);
-    if lent == 0 {
-        printing::print_report(rt, whole)?;
-    } else {
-        let mut log = most_bytes();
-        decode(rt, words, lengths, &mut log, (lent - 1) as usize)?;
+    let whole = Shown::from(batch_code::check(words, lengths));
+    match lent {
+        None => print!(rt; "{whole}")?,
+        Some(bytes) => {
+            let mut log = [0u8; LOG];
+            match log.get_mut(..bytes as usize) {
+                Some(lent) => logging::print_decoded(rt, words, lengths, lent)?,
+                None => print!(rt; "log too long")?,
+            }
+        }
     }
     comparing::compare(rt, words, lengths, whole)?;
     println!(rt)
 }
 
-// Ends the run at input that is no case.
-fn bad_input(rt: &impl Print) -> io::Result<bool> {
-    println!(rt; "bad input")?;
-    Ok(false)
-}
-
-// Runs a case whose words are next, into this room that they fill, and answers whether they were there.
+// Runs a case, the words of which come next.
 fn run_case(
     rt: &impl Print,
     input: &mut impl Read,
     room: &mut [u32],
-    lengths: Lengths,
-    lent: u32,
-) -> io::Result<bool> {
-    if !reading::read_words(input, room)? {
-        return bad_input(rt);
-    }
-    print_line(rt, room, lengths, lent)?;
-    Ok(true)
+    case: Case,
+) -> Result<(), Failure> {
+    let words = room.get_mut(..case.count).ok_or(Failure::Bad)?;
+    reading::read_words(input, words)?;
+    print_line(rt, words, case.lengths, case.lent)?;
+    Ok(())
 }
 
-// Runs the next case, with room for the words of any, and answers whether there was one.
-fn next_case(rt: &impl Print, input: &mut impl Read, room: &mut [u32]) -> io::Result<bool> {
-    match reading::read_head(input)? {
-        Head::End => Ok(false),
-        Head::Bad => bad_input(rt),
-        Head::Case(n, lengths, lent) => {
-            if room.len() < n {
-                return bad_input(rt);
-            }
-            run_case(rt, input, &mut room[..n], lengths, lent)
-        }
+// Runs all cases.
+fn run(rt: &impl Print, input: &mut impl Read) -> Result<(), Failure> {
+    let mut room = [0u32; WORDS];
+    for _ in 0..100000u32 {
+        let Some(case) = reading::read_head(input)? else {
+            break;
+        };
+        run_case(rt, input, &mut room, case)?;
     }
-}
-
-// Room for the longest stored batch. A call, so that no proof meets 2000 zeros.
-fn most_words() -> [u32; 2000]
-    ensures { 2000 ≡ length result }
-{
-    [0u32; 2000]
+    Ok(())
 }
 
 fn main(rt: HostRuntime) -> io::Result<()> {
-    let mut input = rt.stdin();
-    let mut room = most_words();
-    for _ in 0..100000u32 {
-        if !next_case(&rt, &mut input, &mut room)? {
-            break;
-        }
+    match run(&rt, &mut rt.stdin()) {
+        Ok(()) => Ok(()),
+        Err(Failure::Bad) => println!(rt; "bad input"),
+        Err(Failure::Io(e)) => Err(e),
     }
-    Ok(())
 }

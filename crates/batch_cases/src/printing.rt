@@ -1,45 +1,38 @@
-// Printing reports to standard output.
-use batch::{Report, Reported};
-use std::io;
+// What is printed of a report.
+use answers::Fault;
+use batch::{Refusal, Reported};
+use std::fmt;
 
-fn print_number(rt: &impl Print, n: u64) -> io::Result<()> {
-    print!(rt; " {n}")
+// A report: the fault of a refusal, and what is reported as numbers. Reports with the same of both are the same.
+#[derive(Clone, Copy, PartialEq)]
+pub struct Shown {
+    refused: Option<Fault>,
+    reported: Option<[u64; batch::VALUES]>,
 }
 
-fn print_numbers(rt: &impl Print, numbers: &[u64]) -> io::Result<()> {
-    for number in numbers {
-        print_number(rt, *number)?;
-    }
-    Ok(())
-}
-
-fn print_reported(rt: &impl Print, reported: Reported) -> io::Result<()> {
-    let values = batch_code::values_of(reported);
-    print_numbers(rt, &values)
-}
-
-fn print_refusal(rt: &impl Print, number: u8, place: u64) -> io::Result<()> {
-    print!(rt; "refuse")?;
-    print_number(rt, number as u64)?;
-    print_number(rt, place)
-}
-
-// The report in words, with no line end.
-pub fn print_report(rt: &impl Print, report: Report) -> io::Result<()> {
-    match report {
-        Report::Accepted(reported) => {
-            print!(rt; "accept")?;
-            print_reported(rt, reported)
+impl From<Result<Reported, Refusal>> for Shown {
+    fn from(report: Result<Reported, Refusal>) -> Shown {
+        let (refused, reported) = match report {
+            Ok(reported) => (None, Some(reported)),
+            Err(Refusal::Short(fault, reported)) => (Some(fault), Some(reported)),
+            Err(Refusal::Broken(fault)) => (Some(fault), None),
+        };
+        Shown {
+            refused,
+            reported: reported.map(|reported| batch_code::values_of(reported)),
         }
-        Report::Short(number, place, reported) => {
-            print_refusal(rt, number, place)?;
-            print_reported(rt, reported)
-        }
-        Report::Refused(number, place) => print_refusal(rt, number, place),
     }
 }
 
-pub fn print_cut(rt: &impl Print, cut: usize) -> io::Result<()> {
-    print!(rt; " differs at")?;
-    print_number(rt, cut as u64)
+impl fmt::Display for Shown {
+    fn fmt<W: fmt::Write>(&self, f: &mut fmt::Formatter<W>) -> fmt::Result {
+        match self.refused {
+            None => write!(f, "accept")?,
+            Some(fault) => write!(f, "refuse {} {}", fault.number, fault.place)?,
+        }
+        for value in self.reported.iter().flatten() {
+            write!(f, " {value}")?;
+        }
+        Ok(())
+    }
 }

@@ -1,87 +1,92 @@
 // Reading cases from standard input.
+ghost use Rattle.std.specs.Prelude.{◌+◌, ◌≤◌};
+
 use batch::Lengths;
 use std::io;
-use std::io::Read;
+use std::io::{ErrorKind, Read};
 
-// What reading a word came to: the word, no byte more, or less than a word.
+// How many bytes stand before the words of a case.
+const HEAD: usize = 40;
+
+// A case whose words are next: their count, the lengths, and how many bytes of log are lent if it is to be decoded.
 #[derive(Clone, Copy)]
-enum Got {
-    Word(u32),
-    Nothing,
-    Part,
+pub struct Case {
+    pub count: usize,
+    pub lengths: Lengths,
+    pub lent: Option<u32>,
 }
 
-// What is next: a case with its count of words, its lengths and what stands before its words; the end of the input; or neither.
+// Why no case is run any more: the input is none, or it cannot be read or the line not be printed.
 #[derive(Clone, Copy)]
-pub enum Head {
-    Case(usize, Lengths, u32),
-    End,
+pub enum Failure {
     Bad,
+    Io(io::Error),
 }
 
-// Reads until the buffer is full or the input ends, and answers how many bytes it read.
-fn read_full(input: &mut impl Read, buffer: &mut [u8]) -> io::Result<usize> {
-    let mut done = 0;
-    while done < buffer.len() {
-        let got = input.read(&mut buffer[done..])?;
-        if got == 0 {
-            break;
-        }
-        done += got;
+impl From<io::Error> for Failure {
+    fn from(e: io::Error) -> Failure {
+        Failure::Io(e)
     }
-    Ok(done)
 }
 
-fn read_word(input: &mut impl Read) -> io::Result<Got> {
+// Fills the bytes from the input, and answers whether that has as many.
+fn is_filled(input: &mut impl Read, bytes: &mut [u8]) -> io::Result<bool> {
+    match input.read_exact(bytes) {
+        Ok(()) => Ok(true),
+        Err(e) if e.kind() == ErrorKind::UnexpectedEof => Ok(false),
+        Err(e) => Err(e),
+    }
+}
+
+// Fills bytes that have to come.
+fn fill(input: &mut impl Read, bytes: &mut [u8]) -> Result<(), Failure> {
+    if is_filled(input, bytes)? {
+        return Ok(());
+    }
+    Err(Failure::Bad)
+}
+
+// Fills the words from the input.
+pub fn read_words(input: &mut impl Read, words: &mut [u32]) -> Result<(), Failure> {
     let mut bytes = [0u8; 4];
-    let got = read_full(input, &mut bytes)?;
-    if got == 0 {
-        return Ok(Got::Nothing);
+    for word in words {
+        fill(input, &mut bytes)?;
+        *word = fields_code::number32(bytes[0], bytes[1], bytes[2], bytes[3]);
     }
-    if got < 4 {
-        return Ok(Got::Part);
-    }
-    Ok(Got::Word(fields_code::number32(bytes[0], bytes[1], bytes[2], bytes[3])))
+    Ok(())
 }
 
-// Fills the words from the input and answers whether there were as many.
-pub fn read_words(input: &mut impl Read, words: &mut [u32]) -> io::Result<bool> {
-    for room in words {
-        let Got::Word(word) = read_word(input)? else {
-            return Ok(false);
-        };
-        *room = word;
-    }
-    Ok(true)
+// Each program of cases has its own: what differs is the bound.
+fn number32(head: &[u8; HEAD], at: usize) -> u32
+    requires { at + 4 ≤ 40 }
+{
+    fields_code::number32(head[at], head[at + 1], head[at + 2], head[at + 3])
 }
 
-fn number64(low: u32, high: u32) -> u64 {
-    low as u64 + high as u64 * 4294967296
+fn number64(head: &[u8; HEAD], at: usize) -> u64
+    requires { at + 8 ≤ 40 }
+{
+    let low = number32(head, at) as u64;
+    let high = number32(head, at + 4) as u64;
+    low + high * 4294967296
 }
 
-// Four lengths from their halves, the lower first.
-fn lengths_of(halves: &[u32; 8]) -> Lengths {
-    Lengths {
-        source: number64(halves[0], halves[1]),
-        reconstructed: number64(halves[2], halves[3]),
-        forward: number64(halves[4], halves[5]),
-        backward: number64(halves[6], halves[7]),
+// What stands before the words of the next case, unless the input ends before it.
+pub fn read_head(input: &mut impl Read) -> Result<Option<Case>, Failure> {
+    let mut head = [0u8; HEAD];
+    if !is_filled(input, &mut head[..1])? {
+        return Ok(None);
     }
-}
-
-pub fn read_head(input: &mut impl Read) -> io::Result<Head> {
-    match read_word(input)? {
-        Got::Nothing => Ok(Head::End),
-        Got::Part => Ok(Head::Bad),
-        Got::Word(n) => {
-            let mut halves = [0u32; 8];
-            if !read_words(input, &mut halves)? {
-                return Ok(Head::Bad);
-            }
-            let Got::Word(lent) = read_word(input)? else {
-                return Ok(Head::Bad);
-            };
-            Ok(Head::Case(n as usize, lengths_of(&halves), lent))
-        }
-    }
+    fill(input, &mut head[1..])?;
+    let lengths = Lengths {
+        source: number64(&head, 4),
+        reconstructed: number64(&head, 12),
+        forward: number64(&head, 20),
+        backward: number64(&head, 28),
+    };
+    Ok(Some(Case {
+        count: number32(&head, 0) as usize,
+        lengths,
+        lent: number32(&head, 36).checked_sub(1),
+    }))
 }

@@ -7,28 +7,25 @@ use native.Mathlib.Nat.{add-zero}
 use native.Mathlib.Omega.{arith}
 use lib.ListN.{length, drop, length-append, length-drop, take-append-drop, get_or-append}
 use lib.Seq.{length-take-le, take_at, drop_at, drop-drop}
-use Rattle.answers.specs.Answers.{judged}
-use Rattle.answers.specs.declared.Answer.{Answer}
-use Rattle.answers.specs.declared.Answer.TheVariants.{Accepted}
+use Rattle.answers.specs.Answers.{judged, Accepted, Answer}
+use Rattle.std.specs.Prelude.{Ok}
 use Rattle.headers.specs.Headers.{macroblock_header, table, look_up, header_of}
 use Rattle.headers.specs.Words.{word_at}
 use Rattle.headers.specs.declared.Header.TheVariants.{Known}
 use Rattle.headers.specs.declared.Opcode.TheVariants.{Macroblock}
-use Rattle.progress.specs.Progress.{concluded}
+use Rattle.progress.specs.Progress.{concluded, Verdict}
 use Rattle.progress.specs.declared.Progress.{Progress}
-use Rattle.progress.specs.declared.Verdict.{Verdict}
-use Rattle.progress.specs.declared.Verdict.TheVariants.{Next}
 use Rattle.placement.specs.Placing.{macroblock_rules}
 use Rattle.placement.specs.Progressing.{macroblock_next}
 use Rattle.placement.proofs.PositionLaws.{advances}
 use Rattle.rows.specs.Rows.{Follow, TakenFrom}
-use Rattle.rows.specs.declared.Taken.{Taken}
+use Rattle.progress.specs.declared.Taken.{Taken}
 use Rattle.sequence.specs.Judging.{rules_of, next_of, judge}
 use Rattle.batch.specs.Walk.{going, limit, after, step}
 use Rattle.batch.proofs.WalkLaws.{command}
 
 -- a MACROBLOCK command that keeps its rules is judged so
-kept : (p : Progress) (c : List ℕ) → judged (macroblock_rules p c) ≡ Accepted → judge (Known Macroblock 9) p c ≡ Next (macroblock_next p c)
+kept : (p : Progress) (c : List ℕ) → judged (macroblock_rules p c) ≡ Accepted → judge (Known Macroblock 9) p c ≡ Ok (macroblock_next p c)
 unfolding judge rules_of next_of
 kept p c a = ap (λ (x : Answer). concluded x (macroblock_next p c)) a
 

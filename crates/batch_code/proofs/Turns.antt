@@ -18,7 +18,7 @@ use Rattle.commands.specs.Commands.{next_in, by_next}
 use Rattle.commands.specs.declared.NextCommand.{NextCommand}
 use Rattle.commands.specs.declared.NextCommand.TheVariants.{Unknown, Incomplete, Whole}
 use Rattle.batch.specs.Walk.{Walk, going, stopped, limit, after, step, walk_of}
-use Rattle.batch.specs.declared.Walked.TheVariants.{Going}
+use Rattle.std.specs.Prelude.{Ok}
 use Rattle.batch.proofs.WalkLaws.{stays, walk_next, full, used_within}
 
 -- by what stands there: refused by 2, in progress, or a whole command judged and the words behind it
@@ -81,7 +81,7 @@ capped_stopped s m ws n place e =
 
 -- where they are not, and more words follow, the answer is 27
 pub capped_full : (base : ℕ) (p : Progress) (m : ℕ) (ws : List ℕ) (p' : Progress) (used : ℕ) → base + m ≡ limit → m < length ws
-    → walk_of base (take m ws) (Going p' used) ≡ foldl step (going base p []) (take m ws)
+    → walk_of base (take m ws) (Ok (record { progress = p'; used = used })) ≡ foldl step (going base p []) (take m ws)
     → stopped 27 limit ≡ foldl step (going base p []) ws
 capped_full base p m ws p' used f l e =
     let u = used_within base p (take m ws) p' used e in

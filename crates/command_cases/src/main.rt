@@ -5,146 +5,133 @@
 // memory afterwards. rust/reference writes the cases and the lines that are due.
 #![tactic(auto)]
 
-use answers::Answer;
+ghost use Rattle.std.specs.Prelude.{◌+◌, ◌≤◌};
+
+use answers::Fault;
 use headers::{Header, Opcode};
-use std::io;
+use std::fmt::Radix;
 use std::io::{ErrorKind, Read};
+use std::{fmt, io};
 
-fn print_name(rt: &impl Print, opcode: Opcode) -> io::Result<()> {
-    match opcode {
-        Opcode::Noop => print!(rt; "NOOP "),
-        Opcode::End => print!(rt; "END "),
-        Opcode::Surface => print!(rt; "SURFACE "),
-        Opcode::Picture => print!(rt; "PICTURE "),
-        Opcode::SliceGroup => print!(rt; "SLICEGROUP "),
-        Opcode::Macroblock => print!(rt; "MACROBLOCK "),
-    }
-}
+// How many words a case hands in, and how many are lent, at most.
+const WORDS: usize = 12;
 
-fn header_case(rt: &impl Print, word: u32) -> io::Result<()> {
-    print!(rt; "header {word:08x} ")?;
-    match headers_code::read_header(word) {
-        Header::Known(opcode, count) => {
-            print_name(rt, opcode)?;
-            println!(rt; "{count}")
-        }
-        Header::Carried(count) => println!(rt; "carried {count}"),
-        Header::Unknown => println!(rt; "none"),
-    }
-}
+// How many bytes are lent at most.
+const BYTES: usize = 32;
 
-fn print_answer(rt: &impl Print, answer: Answer) -> io::Result<()> {
-    match answer {
-        Answer::Accepted => print!(rt; "0 0 "),
-        Answer::Refused(number, place) => print!(rt; "{number} {place} "),
-    }
-}
+type Case = [u8; 52];
 
-fn print_bytes(rt: &impl Print, room: &[u8]) -> io::Result<()> {
-    for byte in room {
-        print!(rt; "{byte:02x}")?;
-    }
-    println!(rt)
-}
-
-fn print_words(rt: &impl Print, room: &[u32]) -> io::Result<()> {
-    for word in room {
-        print!(rt; "{word:08x}")?;
-    }
-    println!(rt)
+// The word whose bytes stand in a case from a place on. Each program of cases has its own: what differs is the bound.
+fn word_at(case: &Case, at: usize) -> u32
+    requires { at + 4 ≤ 52 }
+{
+    fields_code::number32(case[at], case[at + 1], case[at + 2], case[at + 3])
 }
 
 // The words that a case hands in, and zeros after them.
-fn words_in(case: &[u8; 52]) -> [u32; 12] {
-    let mut words = [0u32; 12];
-    for i in 0..12usize {
-        let at = 4 + 4 * i;
-        words[i] = fields_code::number32(case[at], case[at + 1], case[at + 2], case[at + 3]);
+fn words_in(case: &Case) -> [u32; WORDS] {
+    let mut words = [0u32; WORDS];
+    for (i, word) in words.iter_mut().enumerate() {
+        *word = word_at(case, 4 + 4 * i);
     }
     words
 }
 
-fn read_alone(rt: &impl Print, words: &[u32], room: &mut [u8]) -> io::Result<()> {
-    print!(rt; "read ")?;
-    print_answer(rt, records_code::read_command(words, room))?;
-    print_bytes(rt, room)
+// No `Display`: the type is of another crate, which has definitions and so declares no function.
+fn name_of(opcode: Opcode) -> &'static str {
+    match opcode {
+        Opcode::Noop => "NOOP",
+        Opcode::End => "END",
+        Opcode::Surface => "SURFACE",
+        Opcode::Picture => "PICTURE",
+        Opcode::SliceGroup => "SLICEGROUP",
+        Opcode::Macroblock => "MACROBLOCK",
+    }
 }
 
-fn command_case(
-    rt: &impl Print,
-    given: u8,
-    lent: u8,
-    before: u8,
-    words: [u32; 12],
-) -> io::Result<()> {
-    let count = given as usize;
-    let bytes = lent as usize;
-    let mut room = [before; 32];
-    if count > 12 {
+// An answer as a number and a place.
+#[derive(Clone, Copy)]
+struct Numbers(Result<(), Fault>);
+
+impl fmt::Display for Numbers {
+    fn fmt<W: fmt::Write>(&self, f: &mut fmt::Formatter<W>) -> fmt::Result {
+        match self.0 {
+            Ok(()) => write!(f, "0 0"),
+            Err(fault) => write!(f, "{} {}", fault.number, fault.place),
+        }
+    }
+}
+
+// Bytes or words in so many hexadecimal digits each.
+#[derive(Clone, Copy)]
+struct Hex<'a, T, const DIGITS: usize>(&'a [T]);
+
+impl<T: Radix + Copy, const DIGITS: usize> fmt::Display for Hex<'_, T, DIGITS> {
+    fn fmt<W: fmt::Write>(&self, f: &mut fmt::Formatter<W>) -> fmt::Result {
+        for number in self.0 {
+            write!(f, "{number:0DIGITS$x}")?;
+        }
+        Ok(())
+    }
+}
+
+fn header_case(rt: &impl Print, case: &Case) -> io::Result<()> {
+    let word = word_at(case, 4);
+    match headers_code::read_header(word) {
+        Header::Known(opcode, count) => {
+            println!(rt; "header {word:08x} {} {count}", name_of(opcode))
+        }
+        Header::Carried(count) => println!(rt; "header {word:08x} carried {count}"),
+        Header::Unknown => println!(rt; "header {word:08x} none"),
+    }
+}
+
+// Two sorts and two functions: a command's words are read into bytes, a record's bytes are written into words.
+fn command_case(rt: &impl Print, case: &Case) -> io::Result<()> {
+    let words = words_in(case);
+    let mut room = [case[3]; BYTES];
+    let (Some(given), Some(lent)) = (
+        words.get(..case[1] as usize),
+        room.get_mut(..case[2] as usize),
+    ) else {
         return Ok(());
-    }
-    if bytes > 32 {
+    };
+    let answer = records_code::read_command(given, lent);
+    println!(rt; "read {} {}", Numbers(answer), Hex::<_, 2>(lent))
+}
+
+fn record_case(rt: &impl Print, case: &Case) -> io::Result<()> {
+    let bytes = &case[4..];
+    let before = case[3];
+    let mut room = [fields_code::number32(before, before, before, before); WORDS];
+    let (Some(given), Some(lent)) = (
+        bytes.get(..case[1] as usize),
+        room.get_mut(..case[2] as usize),
+    ) else {
         return Ok(());
-    }
-    read_alone(rt, &words[..count], &mut room[..bytes])
+    };
+    let answer = records_code::write_command(given, lent);
+    println!(rt; "write {} {}", Numbers(answer), Hex::<_, 8>(lent))
 }
 
-fn write_alone(rt: &impl Print, bytes: &[u8], room: &mut [u32]) -> io::Result<()> {
-    print!(rt; "write ")?;
-    print_answer(rt, records_code::write_command(bytes, room))?;
-    print_words(rt, room)
-}
-
-fn record_case(rt: &impl Print, given: u8, lent: u8, before: u8, bytes: &[u8]) -> io::Result<()> {
-    let count = given as usize;
-    let words = lent as usize;
-    let filler = fields_code::number32(before, before, before, before);
-    let mut room = [filler; 12];
-    if count > bytes.len() {
-        return Ok(());
-    }
-    if words > 12 {
-        return Ok(());
-    }
-    write_alone(rt, &bytes[..count], &mut room[..words])
-}
-
-// Fills the buffer from the input, and answers whether that has as many bytes.
-fn is_read(input: &mut impl Read, buffer: &mut [u8]) -> io::Result<bool> {
-    match input.read_exact(buffer) {
-        Ok(()) => Ok(true),
-        Err(e) if e.kind() == ErrorKind::UnexpectedEof => Ok(false),
-        Err(e) => Err(e),
+fn run_case(rt: &impl Print, case: &Case) -> io::Result<()> {
+    match case[0] {
+        0 => header_case(rt, case),
+        1 => command_case(rt, case),
+        2 => record_case(rt, case),
+        _ => Ok(()),
     }
 }
 
-// Runs the next case and answers whether there was one.
-fn next_case(rt: &impl Print, input: &mut impl Read) -> io::Result<bool> {
-    let mut case = [0u8; 52];
-    if !is_read(input, &mut case)? {
-        return Ok(false);
-    }
-    let sort = case[0];
-    if sort == 0 {
-        header_case(
-            rt,
-            fields_code::number32(case[4], case[5], case[6], case[7]),
-        )?;
-    }
-    if sort == 1 {
-        command_case(rt, case[1], case[2], case[3], words_in(&case))?;
-    }
-    if sort == 2 {
-        record_case(rt, case[1], case[2], case[3], &case[4..])?;
-    }
-    Ok(true)
-}
-
+// The loop stands in leaf_cases too: a library for these lines would need definitions, a contract and must-fail edits of its own.
 fn main(rt: HostRuntime) -> io::Result<()> {
     let mut input = rt.stdin();
+    let mut case = [0u8; 52];
     for _ in 0..100000u32 {
-        if !next_case(&rt, &mut input)? {
-            break;
+        match input.read_exact(&mut case) {
+            Ok(()) => run_case(&rt, &case)?,
+            Err(e) if e.kind() == ErrorKind::UnexpectedEof => break,
+            Err(e) => return Err(e),
         }
     }
     Ok(())

@@ -5,8 +5,7 @@ use Rattle.fields.specs.Word.{flag}
 use Rattle.headers.specs.Headers.{header_of, words_in, by_size, begins}
 use Rattle.headers.specs.Words.{word_at}
 use Rattle.macroblock.specs.Macroblocks.{macroblock_of}
-use Rattle.answers.specs.declared.Answer.{Answer}
-use Rattle.answers.specs.declared.Answer.TheVariants.{Accepted, Refused}
+use Rattle.answers.specs.Answers.{Accepted, refused, Answer}
 use Rattle.headers.specs.declared.Header.{Header}
 use Rattle.headers.specs.declared.Header.TheVariants as headers
 use Rattle.headers.specs.declared.Opcode.{Opcode}
@@ -37,11 +36,11 @@ next_in ws = by_size (header_of (word_at ws 0)) (length ws) Unknown Incomplete (
 abbrev pub header_answer : ℕ → Header → Answer
 header_answer at (headers.Known o n) = Accepted
 header_answer at (headers.Carried n) = Accepted
-header_answer at headers.Unknown = Refused 2 at
+header_answer at headers.Unknown = refused 2 at
 
 abbrev pub next_answer : ℕ → ℕ → NextCommand → Answer
-next_answer at end Unknown = Refused 2 at
-next_answer at end Incomplete = Refused 1 end
+next_answer at end Unknown = refused 2 at
+next_answer at end Incomplete = refused 1 end
 next_answer at end (Whole h n) = Accepted
 
 -- By what words begin with: no command; more words are to come; a whole one.

@@ -6,13 +6,12 @@ ghost use Rattle.commands.specs.Commands.{next_in};
 use commands::NextCommand;
 use headers::Header;
 
-// The count of words of the command that a header begins, 0 for none.
+// The count of words of the command that a header begins, 0 for none: no Option, since `command_words` promises the number.
 fn words_in(header: Header) -> usize
     ensures { result ≡ words_in header }
 {
     match header {
-        Header::Known(_, n) => n,
-        Header::Carried(n) => n,
+        Header::Known(_, n) | Header::Carried(n) => n,
         Header::Unknown => 0,
     }
 }
@@ -25,6 +24,7 @@ pub fn command_words(word: u32) -> usize
 }
 
 // What words begin with.
+#[tactic(auto, unfolding(commands::specs::Commands::next_in))]
 pub fn next_command(words: &[u32]) -> NextCommand
     ensures { result ≡ next_in words.now }
 {

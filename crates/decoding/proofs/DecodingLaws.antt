@@ -8,18 +8,17 @@ use borrow.Author.Tests.{ltb-false}
 use lib.Dec.{ltb}
 use lib.ListN.{length, get_or, drop, replicate}
 use Rattle.lists.proofs.Slices.{piece_at, pieces_length, front_length, front_beyond}
-use Rattle.answers.specs.declared.Answer.TheVariants as alone
+use Rattle.std.specs.Prelude.{Ok, Err}
+use Rattle.answers.specs.Answers.{fault_at, Accepted}
+use Rattle.batch.specs.declared.Refusal.TheVariants.{Short, Broken}
 use Rattle.macroblock.specs.Macroblocks.{macroblock_of}
 use Rattle.progress.specs.declared.Progress.{Progress}
-use Rattle.progress.specs.declared.Verdict.TheVariants.{Next}
 use Rattle.records.specs.Alone.{read_answer, read_room}
 use Rattle.records.specs.Layout.{record_length}
 use Rattle.records.proofs.RoundTrips.{record_length_lem, read_alone}
 use Rattle.commands.specs.Commands.{commands_of, macroblocks_in, batch_picture}
-use Rattle.batch.specs.Reports.{report_number, report_place, reported_of, verdict_of, report}
+use Rattle.batch.specs.Reports.{report_number, report_place, reported_of, verdict_of, report, Report}
 use Rattle.batch.specs.declared.Lengths.{Lengths}
-use Rattle.batch.specs.declared.Report.{Report}
-use Rattle.batch.specs.declared.Report.TheVariants.{Accepted, Short, Refused}
 use Rattle.batch.specs.declared.Reported.{Reported}
 use Rattle.batch.proofs.BufferLengths.{passed_keeps, kept_verdict}
 use Rattle.batch.proofs.Numbers.{accepted_by_0}
@@ -33,14 +32,14 @@ use Rattle.batch.specs.Listed.{Alone}
 -- What a decoded batch that passes says of the check and of the room.
 module _ (needed : ℕ) (log : List ℕ) where
   number_0 : (r : Report) → report_number (roomed needed log r) ≡ 0 → report_number r ≡ 0
-  number_0 (Accepted e) h = refl
-  number_0 (Short n place e) h = h
-  number_0 (Refused n place) h = h
+  number_0 (Ok e) h = refl
+  number_0 (Err (Short f e)) h = h
+  number_0 (Err (Broken f)) h = h
 
-  room_for_lem : (e : Reported) → report_number (roomed needed log (Accepted e)) ≡ 0 → needed ≤ length log
+  room_for_lem : (e : Reported) → report_number (roomed needed log (Ok e)) ≡ 0 → needed ≤ length log
   room_for_lem e h = by (ltb (length log) needed) refl h
     where
-      by : (b : Bool) → ltb (length log) needed ≡ b → report_number (cond b (Short 14 needed e) (Accepted e)) ≡ 0 → needed ≤ length log
+      by : (b : Bool) → ltb (length log) needed ≡ b → report_number (cond b (Err (Short (fault_at 14 needed) e)) (Ok e)) ≡ 0 → needed ≤ length log
       by true s h = let z : ◌≡◌ {A = ℕ} 14 0 = h in absurd (omega arith)
       by false s h = ltb-false (length log) needed s
 
@@ -52,7 +51,7 @@ unfolding decoded
 short_room l ws log h s =
     let needed = log_length (batch_picture ws).grid in
     let a = accepted_by_0 l ws h in
-    let d : decoded l ws log ≡ Short 14 needed a.0 = ap (roomed needed log) a.1 ∙ lacking needed log a.0 s in
+    let d : decoded l ws log ≡ Err (Short (fault_at 14 needed) a.0) = ap (roomed needed log) a.1 ∙ lacking needed log a.0 s in
     (ap report_number d, ap report_place d, ap reported_of d ∙ sym (ap reported_of a.1))
 
 pub long_room : (l : Lengths) (ws log : List ℕ) → log_length (batch_picture ws).grid ≤ length log → decoded l ws log ≡ report l ws
@@ -69,13 +68,13 @@ unfolding decoded_log
 refusal_writes_nothing l ws log h = unwritten (decoded l ws log) (log_of ws) log (not_passed (decoded l ws log) h)
 
 -- each macroblock of a batch that keeps the rules can be read alone
-all_alone : (ws : List ℕ) (p : Progress) → verdict_of ws ≡ Next p → (k : ℕ) → k < length (macroblocks_in (commands_of ws)) → Alone (get_or (macroblocks_in (commands_of ws)) k [])
+all_alone : (ws : List ℕ) (p : Progress) → verdict_of ws ≡ Ok p → (k : ℕ) → k < length (macroblocks_in (commands_of ws)) → Alone (get_or (macroblocks_in (commands_of ws)) k [])
 all_alone ws p e k l =
     let w = gone_through ws p e in
     alone_at (macroblocks_in (commands_of ws)) k (macroblocks_alone ws w.0 p w.1 w.2) l
 
 -- a command read alone into 24 bytes leaves its record
-record_alone_lem : (m : List ℕ) → Alone m → (read_answer m (replicate record_length 0) ≡ alone.Accepted) × (read_room m (replicate record_length 0) ≡ record_alone m)
+record_alone_lem : (m : List ℕ) → Alone m → (read_answer m (replicate record_length 0) ≡ Accepted) × (read_room m (replicate record_length 0) ≡ record_alone m)
 record_alone_lem m a =
     let r = read_alone m (replicate record_length 0) a.header a.nine a.kept (omega arith) in
     (r.0, r.1 ∙ append-nil (record_alone m))
@@ -90,7 +89,7 @@ decodes l ws log h =
     let r = kept_verdict l ws (passed_keeps (report l ws) passed) in
     let count = (has_ended ws r.0 r.1).full in
     let fits : needed ≤ length log = room_for_lem needed log a.0 (subst (λ (x : Report). report_number (roomed needed log x) ≡ 0) a.1 h) in
-    let is : decoded l ws log ≡ Accepted a.0 = roomy needed log (report l ws) fits ∙ a.1 in
+    let is : decoded l ws log ≡ Ok a.0 = roomy needed log (report l ws) fits ∙ a.1 in
     let after : decoded_log l ws log ≡ log_of ws ++ drop (length (log_of ws)) log = ap (λ (x : Report). log_after x (log_of ws) log) is in
     let size : (m : List ℕ) → length (record_alone m) ≡ record_length = λ m. record_length_lem (macroblock_of m) in
     let long : length (log_of ws) ≡ needed = pieces_length record_alone record_length size ms ∙ ap (λ (n : ℕ). record_length * n) count in

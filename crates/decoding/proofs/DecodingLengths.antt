@@ -10,10 +10,11 @@ use lib.Dec.{ltb}
 use lib.ListN.{length}
 use Rattle.commands.specs.Commands.{batch_picture}
 use Rattle.batch.specs.Demand.{reading_of, KeepsOthers, AllEnough, Demand3}
-use Rattle.batch.specs.Reports.{report}
+use Rattle.batch.specs.Reports.{report, Report}
 use Rattle.batch.specs.declared.Lengths.{Lengths}
-use Rattle.batch.specs.declared.Report.{Report}
-use Rattle.batch.specs.declared.Report.TheVariants.{Accepted, Short, Refused}
+use Rattle.std.specs.Prelude.{Ok, Err}
+use Rattle.answers.specs.Answers.{fault_at}
+use Rattle.batch.specs.declared.Refusal.TheVariants.{Short, Broken}
 use Rattle.batch.specs.declared.Reported.{Reported}
 use Rattle.batch.proofs.BufferLengths.{passed_keeps, Accepts, Settles, demand_by}
 use Rattle.decoding.specs.Logs.{log_of, log_length, roomed, decoded, log_after, decoded_log, DecodedInto, RoomIn}
@@ -23,15 +24,15 @@ module _ (needed : ℕ) (log : List ℕ) where
   settles = record { keeps_13 = λ place e. refl; accepts = λ e. by (ltb (length log) needed) refl e }
     where
       by : (b : Bool) → ltb (length log) needed ≡ b → (e : Reported)
-          → Accepts (needed ≤ length log) e (cond b (Short 14 needed e) (Accepted e))
+          → Accepts (needed ≤ length log) e (cond b (Err (Short (fault_at 14 needed) e)) (Ok e))
       by true s e = inr (λ h. let l = ltb-true (length log) needed s in omega arith, needed, refl)
       by false s e = inl refl
 
   -- a batch that keeps the other rules when it is decoded keeps them when it is checked
   keeps : (r : Report) → KeepsOthers (reading_of (roomed needed log r)) → KeepsOthers (reading_of r)
-  keeps (Accepted e) k = passed_keeps (Accepted e) refl
-  keeps (Short n place e) k = k
-  keeps (Refused n place) k = k
+  keeps (Ok e) k = passed_keeps (Ok e) refl
+  keeps (Err (Short f e)) k = k
+  keeps (Err (Broken f)) k = k
 
 -- Demand 3 of decoding into any log: 13 comes before 14, and with 14 the same is reported. That the batch keeps the other
 -- rules is asked under some lengths and some log.

@@ -7,10 +7,11 @@ use lib.ListN.{length}
 use Rattle.lists.proofs.Booleans.{either}
 use Rattle.commands.specs.Commands.{batch_picture}
 use Rattle.batch.specs.Numbers.{CheckedBy}
-use Rattle.batch.specs.Reports.{report_number, report_place, report}
+use Rattle.batch.specs.Reports.{report_number, report_place, report, Report}
 use Rattle.batch.specs.declared.Lengths.{Lengths}
-use Rattle.batch.specs.declared.Report.{Report}
-use Rattle.batch.specs.declared.Report.TheVariants.{Accepted, Short, Refused}
+use Rattle.std.specs.Prelude.{Ok, Err}
+use Rattle.answers.specs.Answers.{fault_at}
+use Rattle.batch.specs.declared.Refusal.TheVariants.{Short, Broken}
 use Rattle.batch.proofs.Numbers.{check_numbers}
 use Rattle.decoding.specs.Logs.{log_length, roomed, decoded}
 use Rattle.decoding.specs.Numbers.{DecodedBy, checked, short_room}
@@ -20,9 +21,9 @@ module _ (words needed : ℕ) (log : List ℕ) where
   Numbered r = DecodedBy words needed (report_number r) (report_place r)
 
   room_numbers : (r : Report) → CheckedBy words (report_number r) (report_place r) → Numbered (roomed needed log r)
-  room_numbers (Accepted e) c = either Numbered (ltb (length log) needed) (Short 14 needed e) (Accepted e) (short_room refl refl) (checked c)
-  room_numbers (Short n place e) c = checked c
-  room_numbers (Refused n place) c = checked c
+  room_numbers (Ok e) c = either Numbered (ltb (length log) needed) (Err (Short (fault_at 14 needed) e)) (Ok e) (short_room refl refl) (checked c)
+  room_numbers (Err (Short f e)) c = checked c
+  room_numbers (Err (Broken f)) c = checked c
 
 -- "Decoding needs 24·W·H bytes": 14 has this place.
 pub decode_numbers : (l : Lengths) (ws log : List ℕ)

@@ -1,17 +1,16 @@
 -- Decoding: the log of a batch, and the answer with it. What is quoted is document 01.
 -- To be believed: the answer and the log afterwards. `decodes` (proofs/DecodingLaws.antt) says the same record by record.
-use Rattle.std.specs.Prelude.{ℕ, ◌*◌, ◌≤◌, ◌<◌, cond, ◌≡◌, ltb, length, drop, get_or, take, replicate}
+use Rattle.std.specs.Prelude.{ℕ, ◌*◌, ◌≤◌, ◌<◌, cond, ◌≡◌, ltb, length, drop, get_or, take, replicate, Ok, Err}
 use mathlib.Core.List.{List, ◌++◌, map, flatten, []}
 use Rattle.prediction.specs.declared.Grid.{Grid}
 use Rattle.macroblock.specs.Macroblocks.{macroblock_of}
 use Rattle.records.specs.Layout.{record_length}
 use Rattle.records.specs.Records.{record_of}
 use Rattle.commands.specs.Commands.{commands_of, macroblocks_in, batch_picture}
-use Rattle.batch.specs.Reports.{report}
+use Rattle.batch.specs.Reports.{report, Report}
 use Rattle.batch.specs.declared.Lengths.{Lengths}
-use Rattle.batch.specs.declared.Report.{Report}
-use Rattle.batch.specs.declared.Report.TheVariants.{Accepted, Short, Refused}
-use Rattle.answers.specs.declared.Answer.TheVariants as alone
+use Rattle.answers.specs.Answers.{fault_at, Accepted}
+use Rattle.batch.specs.declared.Refusal.TheVariants.{Short, Broken}
 use Rattle.records.specs.Alone.{read_answer, read_room}
 
 -- The record of one command, read alone.
@@ -29,9 +28,9 @@ log_length g = record_length * (g.columns * g.rows)
 
 -- "14 lent room too small: bytes or words needed"; "14 last". The same is reported with it as without.
 abbrev pub roomed : ℕ → List ℕ → Report → Report
-roomed needed log (Accepted r) = cond (ltb (length log) needed) (Short 14 needed r) (Accepted r)
-roomed needed log (Short n place r) = Short n place r
-roomed needed log (Refused n place) = Refused n place
+roomed needed log (Ok r) = cond (ltb (length log) needed) (Err (Short (fault_at 14 needed) r)) (Ok r)
+roomed needed log (Err (Short f r)) = Err (Short f r)
+roomed needed log (Err (Broken f)) = Err (Broken f)
 
 -- The answer to a batch that is decoded into a log.
 unfoldable pub decoded : Lengths → List ℕ → List ℕ → Report
@@ -39,9 +38,9 @@ decoded l ws log = roomed (log_length (batch_picture ws).grid) log (report l ws)
 
 -- The whole log afterwards: "bytes beyond stay"; "No refusal writes into lent memory."
 abbrev pub log_after : Report → List ℕ → List ℕ → List ℕ
-log_after (Accepted r) new log = new ++ drop (length new) log
-log_after (Short n place r) new log = log
-log_after (Refused n place) new log = log
+log_after (Ok r) new log = new ++ drop (length new) log
+log_after (Err (Short f r)) new log = log
+log_after (Err (Broken f)) new log = log
 
 unfoldable pub decoded_log : Lengths → List ℕ → List ℕ → List ℕ
 decoded_log l ws log = log_after (decoded l ws log) (log_of ws) log
@@ -61,7 +60,7 @@ pub record Decoded (ws before after : List ℕ) : Type 0 where
   pub same_length : length after ≡ length before
   -- "the k-th macroblock's at the k-th place": the record of the k-th MACROBLOCK command, as that command read alone gives it
   pub record_at : (k : ℕ) → k < length (macroblocks_in (commands_of ws))
-      → (read_answer (get_or (macroblocks_in (commands_of ws)) k []) (replicate record_length 0) ≡ alone.Accepted)
+      → (read_answer (get_or (macroblocks_in (commands_of ws)) k []) (replicate record_length 0) ≡ Accepted)
       × (take record_length (drop (record_length * k) after) ≡ read_room (get_or (macroblocks_in (commands_of ws)) k []) (replicate record_length 0))
   -- "bytes beyond stay"
   pub beyond : drop (log_length (batch_picture ws).grid) after ≡ drop (log_length (batch_picture ws).grid) before

@@ -3,7 +3,7 @@
 -- Proved: `decoded_back` (proofs/WaysBack.antt), of every batch that is decoded.
 use Rattle.std.specs.Prelude.{ℕ, zero, suc, ◌≤◌, ◌<◌, true, List, [], ◌∷◌, ◌≡◌, length, get_or, take}
 use Rattle.fields.specs.Parts.{record_at}
-use Rattle.answers.specs.declared.Answer.TheVariants.{Accepted}
+use Rattle.answers.specs.Answers.{Accepted}
 use Rattle.commands.specs.Commands.{commands_of, macroblocks_in}
 use Rattle.records.specs.Alone.{write_answer, write_room}
 use Rattle.records.specs.Layout.{record_length}

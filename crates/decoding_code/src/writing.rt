@@ -14,14 +14,11 @@ fn write_next(header: Header, words: &[u32], k: usize, log: &mut [u8]) -> usize
     requires { 24 * (k + flag (begins Macroblock header)) ≤ length log.old }
     ensures { (result ≡ k + flag (begins Macroblock header)) × (log.new ≡ take (24 * k) log.old ++ (cond (begins Macroblock header) (record_alone words.now) [] ++ drop (24 * result) log.old)) }
 {
-    let Header::Known(opcode, _) = header else {
-        return k;
-    };
-    let Opcode::Macroblock = opcode else {
+    let Header::Known(Opcode::Macroblock, _) = header else {
         return k;
     };
     let macroblock = macroblock_code::macroblock_of(words);
-    records_code::write_record(macroblock, &mut log[24 * k..]);
+    records_code::write_record(macroblock, &mut log[24 * k..]).unwrap();
     k + 1
 }
 
@@ -32,11 +29,8 @@ pub(crate) fn write_records(words: &[u32], log: &mut [u8])
 {
     let mut at = 0;
     let mut k = 0;
-    loop {
-        let next = commands_code::next_command(&words[at..]);
-        let NextCommand::Whole(header, n) = next else {
-            return;
-        };
+    // A loop by hand: a turn takes as many words as the command that stands there.
+    while let NextCommand::Whole(header, n) = commands_code::next_command(&words[at..]) {
         let end = at + n;
         k = write_next(header, &words[at..end], k, log);
         at = end;

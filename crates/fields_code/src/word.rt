@@ -8,16 +8,7 @@ use fields::Halves;
 fn width_of(hi: u8, lo: u8) -> u8
     ensures { result ≡ width hi lo }
 {
-    if hi < lo {
-        return 0;
-    }
-    if 32 <= lo {
-        return 0;
-    }
-    if 32 <= hi {
-        return 32 - lo;
-    }
-    hi - lo + 1
+    hi.saturating_add(1).min(32).saturating_sub(lo)
 }
 
 // A mask of the n lowest bits, of which a word has 32.
@@ -26,7 +17,7 @@ fn ones(n: u8) -> u32
     ensures { result ≡ 2 ^ n - 1 }
 {
     if 32 <= n {
-        return 0xffff_ffff;
+        return u32::MAX;
     }
     (1 << n) - 1
 }
@@ -60,7 +51,7 @@ pub fn is_set(word: u32, bit: u8) -> bool
 pub fn flag_of(set: bool) -> u32
     ensures { result ≡ flag set }
 {
-    if set { 1 } else { 0 }
+    set as u32
 }
 
 // The word with the lowest bits of value in hi:lo, and its other bits as they were.
@@ -80,7 +71,14 @@ pub fn with_bits(word: u32, hi: u8, lo: u8, value: u32) -> u32
     below | (field << lo) | ((word >> end) << end)
 }
 
-// The halves of a word.
+// The word with one bit that says whether something is so.
+pub fn with_flag(word: u32, bit: u8, set: bool) -> u32
+    ensures { result ≡ with_bits word bit bit (flag set) }
+{
+    with_bits(word, bit, bit, flag_of(set))
+}
+
+// The halves of a word, and back. Functions and no `From`: the type is of a crate of definitions, which declares no function.
 pub fn halves_of(word: u32) -> Halves
     ensures { result ≡ halves_of word }
 {
@@ -94,7 +92,5 @@ pub fn halves_of(word: u32) -> Halves
 pub fn word_of_halves(halves: Halves) -> u32
     ensures { result ≡ word_of_halves halves }
 {
-    let low = halves.low as u32;
-    let high = halves.high as u32;
-    with_bits(low, 31, 16, high)
+    with_bits(halves.low as u32, 31, 16, halves.high as u32)
 }

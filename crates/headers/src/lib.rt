@@ -16,7 +16,7 @@ pub enum Opcode {
 }
 
 // What a word begins: a known command or a carried one (document 01's term for those that only have a length), each with its
-// count of words, or no command.
+// count of words, or no command. An enum of its own: an `Option` of an enum of two would say the same in two types.
 #[derive(Clone, Copy)]
 pub enum Header {
     Known(Opcode, usize),

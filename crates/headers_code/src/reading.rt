@@ -5,6 +5,7 @@ ghost use Rattle.headers.specs.Headers.{header_of};
 use headers::{Header, Opcode};
 
 // What a word begins. The whole word must match.
+#[tactic(auto, unfolding(headers::specs::Headers::header_of, headers::specs::Headers::look_up, headers::specs::Headers::table))]
 pub fn read_header(word: u32) -> Header
     ensures { result ≡ header_of word }
 {

@@ -6,5 +6,5 @@ ghost use Rattle.headers.specs.Words.{word_at};
 pub fn word_at(words: &[u32], i: usize) -> u32
     ensures { result ≡ word_at words.now i }
 {
-    if i < words.len() { words[i] } else { 0 }
+    words.get(i).copied().unwrap_or(0)
 }

@@ -26,7 +26,7 @@ pub fn hromulice_hand_over(memory: &mut [u64; memory::WORDS], part: &[u32])
     ensures { MemoryHanded memory.old part.now memory.new }
 {
     let state = memory_code::state_in(memory);
-    if state.stopped {
+    if state.fault.is_some() {
         return;
     }
     *memory = memory_code::state_words(parts_code::hand_over(state, part));

@@ -2,23 +2,26 @@
 ghost use Rattle.std.specs.Prelude.{◌≡◌};
 ghost use Rattle.interface.specs.Mounting.{mount_of, mounts_of, mount_shift_of, MountAsked, MountAdded, MountTurned};
 
-use answers::Answer;
-use interface::{Mount, MountShift, Mounts};
-use mounts::{Added, Asked, Shift, Turned};
+use crate::summaries;
+use answers::Fault;
+use interface::{Mount, MountShift, Mounts, Outcome};
+use mounts::{Added, Sheet, Shift};
 
-fn mount_of(asked: Asked) -> Mount
+// Functions and no impl of From, as in summaries.rt, and one for each: C's structs have other fields.
+
+fn mount_of(asked: Result<Sheet, Fault>) -> Mount
     ensures { result ≡ mount_of asked }
 {
     match asked {
-        Asked::Found(sheet) => Mount {
+        Ok(sheet) => Mount {
             number: 0,
             place: 0,
             edition: sheet.edition,
             side: sheet.side,
         },
-        Asked::Refused(number, place) => Mount {
-            number,
-            place,
+        Err(fault) => Mount {
+            number: fault.number,
+            place: fault.place,
             edition: 0,
             side: 0,
         },
@@ -28,35 +31,27 @@ fn mount_of(asked: Asked) -> Mount
 fn mounts_of(added: Added) -> Mounts
     ensures { result ≡ mounts_of added }
 {
-    let answer = added.answer;
-    let count = added.count;
-    match answer {
-        Answer::Accepted => Mounts {
-            number: 0,
-            place: 0,
-            count,
-        },
-        Answer::Refused(number, place) => Mounts {
-            number,
-            place,
-            count,
-        },
+    let Outcome { number, place } = summaries::outcome_of(added.answer);
+    Mounts {
+        number,
+        place,
+        count: added.count,
     }
 }
 
-fn mount_shift_of(turned: Turned) -> MountShift
+fn mount_shift_of(turned: Result<Shift, Fault>) -> MountShift
     ensures { result ≡ mount_shift_of turned }
 {
     match turned {
-        Turned::Vector(shift) => MountShift {
+        Ok(vector) => MountShift {
             number: 0,
             place: 0,
-            x: shift.x,
-            y: shift.y,
+            x: vector.x,
+            y: vector.y,
         },
-        Turned::Refused(number, place) => MountShift {
-            number,
-            place,
+        Err(fault) => MountShift {
+            number: fault.number,
+            place: fault.place,
             x: 0,
             y: 0,
         },

@@ -1,65 +1,80 @@
 // Answers as numbers.
-ghost use Rattle.std.specs.Prelude.{◌≡◌};
-ghost use Rattle.batch.specs.declared.Report.TheVariants.{Short};
+ghost use Rattle.std.specs.Prelude.{◌≡◌, Err};
+ghost use Rattle.batch.specs.declared.Refusal.TheVariants.{Broken, Short};
 ghost use Rattle.interface.specs.Summaries.{summary_of, outcome_of};
 
-use answers::Answer;
-use batch::{Lengths, Report, Reported};
+use answers::Fault;
+use batch::{Lengths, Refusal, Reported};
 use interface::{Outcome, Summary};
+use progress::Extents;
+
+// Functions and no impl of From: C's structs are of a crate of definitions, which has no code.
+
+// The number and the place of what is accepted.
+const ACCEPTED: Fault = Fault {
+    number: 0,
+    place: 0,
+};
 
 // A number and a place with what is reported.
-fn measured(number: u8, place: u64, reported: Reported) -> Summary
-    ensures { result ≡ summary_of (Short number place reported) }
+fn measured(fault: Fault, reported: Reported) -> Summary
+    ensures { result ≡ summary_of (Err (Short fault reported)) }
 {
+    let Extents {
+        source,
+        reconstructed,
+        forward,
+        backward,
+    } = reported.extents;
     Summary {
-        number,
-        place,
+        number: fault.number,
+        place: fault.place,
         lengths: Lengths {
-            source: reported.extents.source.end,
-            reconstructed: reported.extents.reconstructed.end,
-            forward: reported.extents.forward.end,
-            backward: reported.extents.backward.end,
+            source: source.end,
+            reconstructed: reconstructed.end,
+            forward: forward.end,
+            backward: backward.end,
         },
         firsts: Lengths {
-            source: reported.extents.source.first,
-            reconstructed: reported.extents.reconstructed.first,
-            forward: reported.extents.forward.first,
-            backward: reported.extents.backward.first,
+            source: source.first,
+            reconstructed: reconstructed.first,
+            forward: forward.first,
+            backward: backward.first,
         },
     }
 }
 
-pub(crate) fn summary_of(report: Report) -> Summary
+// A number and a place alone.
+fn unmeasured(fault: Fault) -> Summary
+    ensures { result ≡ summary_of (Err (Broken fault)) }
+{
+    let zeros = Lengths {
+        source: 0,
+        reconstructed: 0,
+        forward: 0,
+        backward: 0,
+    };
+    Summary {
+        number: fault.number,
+        place: fault.place,
+        lengths: zeros,
+        firsts: zeros,
+    }
+}
+
+pub(crate) fn summary_of(report: Result<Reported, Refusal>) -> Summary
     ensures { result ≡ summary_of report }
 {
     match report {
-        Report::Accepted(reported) => measured(0, 0, reported),
-        Report::Short(number, place, reported) => measured(number, place, reported),
-        Report::Refused(number, place) => {
-            let zeros = Lengths {
-                source: 0,
-                reconstructed: 0,
-                forward: 0,
-                backward: 0,
-            };
-            Summary {
-                number,
-                place,
-                lengths: zeros,
-                firsts: zeros,
-            }
-        }
+        Ok(reported) => measured(ACCEPTED, reported),
+        Err(Refusal::Short(fault, reported)) => measured(fault, reported),
+        Err(Refusal::Broken(fault)) => unmeasured(fault),
     }
 }
 
-pub(crate) fn outcome_of(answer: Answer) -> Outcome
+pub(crate) fn outcome_of(answer: Result<(), Fault>) -> Outcome
     ensures { result ≡ outcome_of answer }
 {
-    match answer {
-        Answer::Accepted => Outcome {
-            number: 0,
-            place: 0,
-        },
-        Answer::Refused(number, place) => Outcome { number, place },
-    }
+    let Fault { number, place } = answer.err().unwrap_or(ACCEPTED);
+    Outcome { number, place }
 }

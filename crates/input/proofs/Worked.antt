@@ -26,7 +26,7 @@ use Rattle.sequence.specs.Judging.{rules_of, next_of, judge}
 use Rattle.batch.specs.Batches.{b_picture}
 use Rattle.batch.specs.Walk.{after, step}
 use Rattle.batch.specs.Reports.{buffer_rules, measured, verdict_of, report}
-use Rattle.batch.specs.declared.Report.TheVariants.{Accepted}
+use Rattle.std.specs.Prelude.{Ok}
 use Rattle.input.specs.Text.{ascii, decimal}
 use Rattle.input.specs.Line.{lengths_of, answer_to, input_report, text_of, input_line}
 use Rattle.input.specs.Input.{output_line}
@@ -44,7 +44,7 @@ in_order = refl
 abbrev extent : ℕ → ℕ → Extent
 extent first end = record { first = first; end = end }
 
-printed_in_order : text_of (Accepted (record { extents = record { source = extent 0 1; reconstructed = extent 5 20; forward = extent 42 300; backward = extent 0xFFFFFFFFFFFFFFFE 0xFFFFFFFFFFFFFFFF } }))
+printed_in_order : text_of (Ok (record { extents = record { source = extent 0 1; reconstructed = extent 5 20; forward = extent 42 300; backward = extent 0xFFFFFFFFFFFFFFFE 0xFFFFFFFFFFFFFFFF } }))
     ≡ ascii "accept 1 20 300 18446744073709551615 0 5 42 18446744073709551614"
 unfolding decimal
 printed_in_order = refl

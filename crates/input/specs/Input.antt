@@ -1,15 +1,16 @@
 -- What the state of an input in pieces stands for, and what its functions promise.
 -- Proved: against the line of all bytes, by `pieces_line` (proofs/Pieces.antt).
-use Rattle.std.specs.Prelude.{ℕ, ◌+◌, ◌-◌, ◌≤◌, cond, ◌≡◌, ltb, length, take, replicate}
+use Rattle.std.specs.Prelude.{Option, None, Some, ℕ, ◌+◌, ◌-◌, ◌≤◌, cond, ◌≡◌, ltb, length, take, replicate, Err}
 use mathlib.Core.List.{List, [], ◌∷◌, ◌++◌, foldl}
 use Rattle.lists.specs.Calls.{Along}
 use Rattle.fields.specs.Bytes.{number_in}
-use Rattle.batch.specs.Reports.{finish}
+use Rattle.batch.specs.Reports.{finish, Report}
 use Rattle.batch.specs.Walk.{Walk, going, stopped, step, start}
 use Rattle.batch.specs.declared.Lengths.{Lengths}
-use Rattle.batch.specs.declared.Report.{Report}
-use Rattle.batch.specs.declared.Report.TheVariants.{Refused}
+use Rattle.answers.specs.Answers.{fault_at}
+use Rattle.batch.specs.declared.Refusal.TheVariants.{Broken}
 use Rattle.parts.specs.States.{walk_in}
+use Rattle.parts.specs.declared.State.{State}
 use Rattle.input.specs.Line.{lengths_of, left_over, report_line}
 use Rattle.input.specs.declared.OutputLine.{OutputLine}
 use Rattle.input.specs.declared.Stream.{Stream}
@@ -39,7 +40,7 @@ words_through (stopped n place) = 0
 
 -- The answer where the input ends.
 abbrev pub finished : Input → Report
-finished (head g) = Refused 16 (length g)
+finished (head g) = Err (Broken (fault_at 16 (length g)))
 finished (body l w g) = left_over (length g) (words_through w) (finish l w)
 
 -- The bytes held, where they are fewer than `most`; else none.
@@ -47,16 +48,16 @@ unfoldable pub held_of : ℕ → Stream → List ℕ
 held_of most s = cond (ltb s.held most) (take s.held s.bytes) []
 
 -- The input that a state stands for.
+abbrev pub checked : Option State → Stream → Input
+checked None s = head (held_of 32 s)
+checked (Some check) s = body check.lengths (walk_in check) (held_of 4 s)
+
 unfoldable pub input_in : Stream → Input
-input_in s = cond s.begun (body s.state.lengths (walk_in s.state) (held_of 4 s)) (head (held_of 32 s))
+input_in s = checked s.check s
 
 -- A text as the whole struct that holds it: its bytes with zeros behind them, and how many it has.
 abbrev pub output_line : List ℕ → OutputLine
 output_line text = record { bytes = text ++ replicate (256 - length text) 0; len = length text }
-
--- A line with some text behind that of another.
-abbrev pub Followed : OutputLine → List ℕ → OutputLine → Type 0
-Followed line text r = (t : List ℕ) → line ≡ output_line t → r ≡ output_line (t ++ text)
 
 -- What a fresh input promises, what handing over a piece promises of the state that it returns, and what the answer promises.
 abbrev pub InputBegun : Stream → Type 0

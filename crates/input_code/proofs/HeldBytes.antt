@@ -1,5 +1,4 @@
 -- The bytes that a state holds, by its fields.
-use mathlib.Core.Bool.{true, false}
 use mathlib.Core.List.{List, [], ◌++◌, foldl}
 use mathlib.Core.Path.{◌≡◌, sym, ◌∙◌, ap}
 use Prim.Native.Nat.{ℕ, ◌+◌, ◌≤◌, ◌<◌}
@@ -9,7 +8,9 @@ use lib.ListN.{length, take, length-append}
 use lib.Seq.{length-take-le}
 use Rattle.lists.proofs.Slices as slices
 use Rattle.parts.specs.States.{walk_in}
-use Rattle.input.specs.Input.{Input, head, body, feed, held_of, input_in}
+use Rattle.std.specs.Prelude.{Option, None, Some}
+use Rattle.parts.specs.declared.State.{State}
+use Rattle.input.specs.Input.{Input, head, body, feed, held_of, checked, input_in}
 use Rattle.input.specs.declared.Stream.{Stream}
 
 pub held_some : (most : ℕ) (s : Stream) → s.held < most → held_of most s ≡ take s.held s.bytes
@@ -21,19 +22,23 @@ unfolding held_of
 held_over most s h = simp (le-ltb s.held most h)
 
 -- the input of a state before the end of the lengths, and after it
-pub in_head : (s : Stream) → s.begun ≡ false → input_in s ≡ head (held_of 32 s)
+pub in_head : (s : Stream) → s.check ≡ None → input_in s ≡ head (held_of 32 s)
 unfolding input_in
-in_head s e = simp e
+in_head s e = ap (λ (c : Option State). checked c s) e
 
-pub in_body : (s : Stream) → s.begun ≡ true → input_in s ≡ body s.state.lengths (walk_in s.state) (held_of 4 s)
+pub in_body : (s : Stream) (check : State) → s.check ≡ Some check → input_in s ≡ body check.lengths (walk_in check) (held_of 4 s)
 unfolding input_in
-in_body s e = simp e
+in_body s check e = ap (λ (c : Option State). checked c s) e
 
--- a piece handed to a state that holds the bytes `g` of a word
-pub handed_body : (s r : Stream) (g piece : List ℕ) → s.begun ≡ true → held_of 4 s ≡ g
-    → input_in r ≡ foldl feed (body s.state.lengths (walk_in s.state) g) piece → input_in r ≡ foldl feed (input_in s) piece
-handed_body s r g piece e h came =
-    came ∙ ap (λ (x : Input). foldl feed x piece) (sym (in_body s e ∙ ap (body s.state.lengths (walk_in s.state)) h))
+-- a piece handed to a state that holds the bytes `g`, of the lengths or of a word
+pub handed_head : (s r : Stream) (g piece : List ℕ) → s.check ≡ None → held_of 32 s ≡ g
+    → input_in r ≡ foldl feed (head g) piece → input_in r ≡ foldl feed (input_in s) piece
+handed_head s r g piece e h came = came ∙ ap (λ (x : Input). foldl feed x piece) (sym (in_head s e ∙ ap head h))
+
+pub handed_body : (s r : Stream) (check : State) (g piece : List ℕ) → s.check ≡ Some check → held_of 4 s ≡ g
+    → input_in r ≡ foldl feed (body check.lengths (walk_in check) g) piece → input_in r ≡ foldl feed (input_in s) piece
+handed_body s r check g piece e h came =
+    came ∙ ap (λ (x : Input). foldl feed x piece) (sym (in_body s check e ∙ ap (body check.lengths (walk_in check)) h))
 
 -- Bytes that were stored behind the first `held` of some bytes: `r` holds them all.
 module _ (held : ℕ) (old piece r : List ℕ) (len : length r ≡ 32) (room : held + length piece ≤ 32)

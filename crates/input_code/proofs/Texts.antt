@@ -1,13 +1,15 @@
 -- Numbers in decimal, and texts behind each other.
 use mathlib.Core.Bool.{Bool, true, false, cond}
-use mathlib.Core.List.{List, [], ◌∷◌, ◌++◌, foldl-append, append_assoc}
-use mathlib.Core.Path.{◌≡◌, refl, sym, ◌∙◌, ap, subst}
+use mathlib.Core.List.{List, [], ◌∷◌, ◌++◌, foldl-append, append-nil, append_assoc}
+use mathlib.Core.Path.{◌≡◌, refl, sym, ◌∙◌, ap, ap₂, subst}
 use Prim.Native.Nat.{ℕ, zero, suc, ◌+◌, ◌*◌, ◌-◌, ◌/◌, ◌%◌, ◌^◌, ◌≤◌, ◌<◌}
-use native.Mathlib.Nat.{pow-zero, pow-suc}
+use native.Mathlib.Nat.{le_of_lt, pow-zero, pow-suc}
+use native.Mathlib.Numerals.{add-one}
 use native.Mathlib.Omega.{arith}
 use borrow.Author.Tests.{lt-ltb, le-ltb, ltb-false}
 use lib.Dec.{ltb}
-use lib.ListN.{length, get_or, length-append}
+use lib.ListN.{length, get_or, take, length-append}
+use lib.Seq.{length-take-le, take-suc}
 use Rattle.io.specs.Digits as kit
 use Rattle.input.specs.Text.{digit, digits, decimal, spaced, value_of}
 
@@ -65,6 +67,28 @@ digits_few (suc k) n = by (ltb n 10) (digits_few k (n / 10))
 pub decimal_few : (n : ℕ) → length (decimal n) ≤ 20
 unfolding decimal
 decimal_few n = digits_few 20 n
+
+-- and with its space each number is at most 21 bytes
+pub spaced_few : (ns : List ℕ) → length (spaced ns) ≤ 21 * length ns
+spaced_few [] = omega arith
+spaced_few (n ∷ ns) = omega (arith, length-append (decimal n) (spaced ns), decimal_few n, spaced_few ns)
+
+-- Numbers are put behind a text that has room for all.
+module _ (text before : List ℕ) (ns : List ℕ) (i : ℕ) (is : text ≡ before ++ spaced (take i ns)) (more : i < length ns) where
+  pub room_for_one : length before + 21 * length ns ≤ 256 → length text + 21 ≤ 256
+  room_for_one fits =
+      let long = ap length is ∙ length-append before (spaced (take i ns)) in
+      let some = length-take-le i ns (le_of_lt more) in
+      let few = spaced_few (take i ns) in
+      omega arith
+
+  pub one_spaced : (text ++ (32 ∷ [])) ++ decimal (get_or ns i 0) ≡ before ++ spaced (take (i + 1) ns)
+  one_spaced =
+      let n = get_or ns i 0 in
+      append_assoc text (32 ∷ []) (decimal n)
+      ∙ ap₂ (λ (x y : List ℕ). x ++ (32 ∷ y)) is (sym (append-nil (decimal n)))
+      ∙ then_spaced before (take i ns) (n ∷ [])
+      ∙ ap (λ (xs : List ℕ). before ++ spaced xs) (sym (take-suc ns i 0 more) ∙ ap (λ (k : ℕ). take k ns) (sym (add-one i)))
 
 power_some : (i : ℕ) → 1 ≤ 10 ^ i
 power_some zero = omega (arith, pow-zero 10)

@@ -1,23 +1,16 @@
 -- The words of some bytes, one by one and in parts.
 use mathlib.Core.List.{List, [], ◌∷◌, ◌++◌, foldl, append-nil}
 use mathlib.Core.Path.{◌≡◌, refl, sym, ◌∙◌, ap}
-use Prim.Native.Nat.{ℕ, suc, ◌+◌, ◌*◌, ◌-◌, ◌/◌, ◌≤◌, ◌<◌}
+use Prim.Native.Nat.{ℕ, suc, ◌+◌, ◌*◌, ◌/◌, ◌%◌, ◌≤◌, ◌<◌}
 use native.Mathlib.Omega.{arith}
 use lib.ListN.{length, get_or, take, drop, set, length-drop}
-use lib.Seq.{drop-cons, drop-drop, take-suc-set, append_snoc, length-take-le}
-use Rattle.lists.proofs.Slices.{split}
+use lib.Seq.{drop-cons, take-suc-set, append_snoc}
 use Rattle.fields.specs.Bytes.{number_in, elements}
-use Rattle.batch.specs.Walk.{Walk, step}
+use Rattle.batch.specs.Walk.{Walk}
 use Rattle.batch.specs.declared.Lengths.{Lengths}
 use Rattle.input.specs.Line.{words_from}
-use Rattle.input.specs.Input.{Input, body, feed}
-use Rattle.input.proofs.Feeding.{word_gathered, whole_fed}
-
--- Eight bytes are four and four.
-pub eight_bytes : (xs : List ℕ) (i : ℕ) → number_in (elements xs i 4) + number_in (elements xs (i + 4) 4) * 4294967296 ≡ number_in (elements xs i 8)
-eight_bytes xs i =
-    let e : i + 4 ≡ suc (suc (suc (suc i))) = omega arith in
-    rw e (omega arith)
+use Rattle.input.specs.Input.{body, feed}
+use Rattle.input.proofs.Feeding.{word_gathered}
 
 pub no_word : (bs : List ℕ) → length bs < 4 → words_from bs ≡ []
 no_word [] h = refl
@@ -62,18 +55,13 @@ all_converted bs room i so e =
     ∙ ap (λ (x : List ℕ). take i room ++ x) (sym none)
     ∙ so
 
--- Whole words of a piece from byte `at` to byte `end`, and the bytes behind them.
-pub words_on : (l : Lengths) (w : Walk) (piece : List ℕ) (at n end : ℕ) → at + 4 * n ≡ end → end ≤ length piece
-    → foldl feed (body l w []) (drop at piece) ≡ foldl feed (body l (foldl step w (words_from (take (end - at) (drop at piece)))) []) (drop end piece)
-words_on l w piece at n end e h =
-    let rest = drop at piece in
-    let m = end - at in
-    let len = length-drop at piece in
-    let some = length-take-le m rest (omega arith) in
-    let all : at + m ≡ end = omega arith in
-    split feed (body l w []) m rest
-    ∙ ap (λ (x : Input). foldl feed x (drop m rest)) (whole_fed l w (take m rest) (omega arith))
-    ∙ ap (foldl feed (body l (foldl step w (words_from (take m rest))) [])) (drop-drop m at piece ∙ ap (λ (k : ℕ). drop k piece) all)
+-- the words of whole words and of what is behind them
+pub words_append : (xs ys : List ℕ) → length xs % 4 ≡ 0 → words_from (xs ++ ys) ≡ words_from xs ++ words_from ys
+words_append [] ys h = refl
+words_append (a ∷ []) ys h = absurd (omega arith)
+words_append (a ∷ b ∷ []) ys h = absurd (omega arith)
+words_append (a ∷ b ∷ c ∷ []) ys h = absurd (omega arith)
+words_append (a ∷ b ∷ c ∷ d ∷ xs) ys h = ap (λ (ws : List ℕ). number_in (a ∷ b ∷ c ∷ d ∷ []) ∷ ws) (words_append xs ys (omega arith))
 
 -- Fewer than four bytes are held.
 pub few_held : (l : Lengths) (w : Walk) (bs : List ℕ) → length bs < 4 → foldl feed (body l w []) bs ≡ body l w bs

@@ -3,27 +3,33 @@ ghost use Rattle.std.specs.Prelude.{◌≡◌};
 ghost use Rattle.input.specs.Input.{finished, input_in, InputAnswered};
 
 use crate::{holding, printing};
-use batch::Report;
+use answers::Fault;
+use batch::{Refusal, Reported};
 use input::{OutputLine, Stream};
 
 // The answer to all bytes so far, taken as a whole input.
-fn outcome(stream: Stream) -> Report
+fn outcome(stream: Stream) -> Result<Reported, Refusal>
     ensures { result ≡ finished (input_in stream) }
 {
-    if !stream.begun {
+    let Some(state) = stream.check else {
         let held = holding::held_bytes(stream, 32);
-        return Report::Refused(16, held as u64);
-    }
+        return Err(Refusal::Broken(Fault {
+            number: 16,
+            place: held as u64,
+        }));
+    };
     let held = holding::held_bytes(stream, 4);
-    let state = stream.state;
     let report = parts_code::answer(state);
     if held == 0 {
         return report;
     }
-    let Report::Accepted(_) = report else {
+    let Ok(_) = report else {
         return report;
     };
-    Report::Refused(1, state.at as u64)
+    Err(Refusal::Broken(Fault {
+        number: 1,
+        place: state.at as u64,
+    }))
 }
 
 // The line for all bytes so far, taken as a whole input.

@@ -10,11 +10,7 @@ pub(crate) fn word_at(bytes: &[u8], at: usize) -> u32
     requires { at + 4 ≤ length bytes.now }
     ensures { result ≡ number_in (elements bytes.now at 4) }
 {
-    let b0 = bytes[at];
-    let b1 = bytes[at + 1];
-    let b2 = bytes[at + 2];
-    let b3 = bytes[at + 3];
-    fields_code::number32(b0, b1, b2, b3)
+    u32::from_le_bytes([bytes[at], bytes[at + 1], bytes[at + 2], bytes[at + 3]])
 }
 
 // The number of eight bytes from byte `at` on.
@@ -22,9 +18,16 @@ fn length_at(bytes: &[u8], at: usize) -> u64
     requires { at + 8 ≤ length bytes.now }
     ensures { result ≡ number_in (elements bytes.now at 8) }
 {
-    let low = word_at(bytes, at);
-    let high = word_at(bytes, at + 4);
-    low as u64 + high as u64 * 4294967296
+    u64::from_le_bytes([
+        bytes[at],
+        bytes[at + 1],
+        bytes[at + 2],
+        bytes[at + 3],
+        bytes[at + 4],
+        bytes[at + 5],
+        bytes[at + 6],
+        bytes[at + 7],
+    ])
 }
 
 // The four lengths at the start of some bytes.

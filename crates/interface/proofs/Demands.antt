@@ -3,9 +3,8 @@ use mathlib.Core.List.{List}
 use mathlib.Core.Path.{◌≡◌, refl, sym, ap, subst, ◌∙◌}
 use Prim.Native.Nat.{ℕ}
 use Rattle.batch.specs.Demand.{Reading, reading_of, KeepsOthers, AllEnough, Demand3, Checked}
-use Rattle.batch.specs.Reports.{report}
+use Rattle.batch.specs.Reports.{report, Report}
 use Rattle.batch.specs.declared.Lengths.{Lengths}
-use Rattle.batch.specs.declared.Report.{Report}
 use Rattle.batch.proofs.BufferLengths.{demand_through, demand_whole}
 use Rattle.decoding.specs.Logs.{decoded, DecodedInto, RoomIn}
 use Rattle.decoding.proofs.DecodingLengths.{demand_decoding, same_records}

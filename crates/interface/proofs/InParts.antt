@@ -9,7 +9,7 @@ use Rattle.lists.proofs.Stepping.{along, along_view}
 use Rattle.batch.specs.Numbers.{CheckedBy}
 use Rattle.batch.specs.Reports.{report_number, finish, report}
 use Rattle.batch.specs.declared.Lengths.{Lengths}
-use Rattle.parts.specs.States.{walk_in, Handed}
+use Rattle.parts.specs.States.{has_stopped, walk_in, Handed}
 use Rattle.parts.proofs.Parts.{stopped_stays, answered_stopped, parts_whole}
 use Rattle.interface.specs.Handing.{MemoryHanded, summary_in, MemoryHandedOver}
 use Rattle.memory.specs.Memory.{state_in}
@@ -18,14 +18,14 @@ use Rattle.interface.specs.declared.Summary.{Summary}
 use Rattle.interface.proofs.SummaryLaws.{check_answers}
 
 -- Memory of a check that has stopped meets the promise as it stands.
-pub stopped_handed : (m part : List ℕ) → (state_in m).stopped ≡ true → MemoryHanded m part m
+pub stopped_handed : (m part : List ℕ) → has_stopped (state_in m) ≡ true → MemoryHanded m part m
 stopped_handed m part e = record { handed = (stopped_stays (state_in m) part e, refl); stays = λ _. refl }
 
 -- A check that has stopped leaves its memory as it was, whatever parts are handed over.
-pub refused_stays : (m : List ℕ) (parts : List (List ℕ)) (r : List ℕ) → Along MemoryHanded m parts r → (state_in m).stopped ≡ true → r ≡ m
+pub refused_stays : (m : List ℕ) (parts : List (List ℕ)) (r : List ℕ) → Along MemoryHanded m parts r → has_stopped (state_in m) ≡ true → r ≡ m
 refused_stays =
-    along MemoryHanded (λ m parts r. (state_in m).stopped ≡ true → r ≡ m) (λ m e. refl)
-    (λ m part n parts r one others e. let same = one.stays e in others (ap (λ (x : List ℕ). (state_in x).stopped) same ∙ e) ∙ same)
+    along MemoryHanded (λ m parts r. has_stopped (state_in m) ≡ true → r ≡ m) (λ m e. refl)
+    (λ m part n parts r one others e. let same = one.stays e in others (ap (λ (x : List ℕ). has_stopped (state_in x)) same ∙ e) ∙ same)
 
 -- What include/hromulice.h says of hromulice_hand_over: after a report with another number than 0, 1 and 13 every word stays, whatever parts
 -- are handed over.

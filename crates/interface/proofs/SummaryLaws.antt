@@ -5,7 +5,9 @@ use Prim.Native.Nat.{ℕ}
 use lib.ListN.{length}
 use Rattle.answers.specs.Answers as answer
 use Rattle.answers.specs.Numbers.{Among}
-use Rattle.answers.specs.declared.Answer.{Answer}
+use Rattle.std.specs.Prelude.{Ok, Err}
+use Rattle.batch.specs.declared.Refusal.TheVariants.{Short, Broken}
+use Rattle.answers.specs.Answers.{Answer}
 use Rattle.answers.proofs.NumberLaws.{in_places}
 use Rattle.commands.specs.Commands.{batch_picture}
 use Rattle.records.specs.Alone.{read_answer, write_answer}
@@ -13,10 +15,8 @@ use Rattle.records.specs.Numbers.{read_places, write_places}
 use Rattle.records.proofs.Numbers.{read_numbers, write_numbers}
 use Rattle.batch.specs.Numbers.{CheckedBy}
 use Rattle.batch.specs.Demand.{reading_of}
-use Rattle.batch.specs.Reports.{report}
+use Rattle.batch.specs.Reports.{report, Report}
 use Rattle.batch.specs.declared.Lengths.{Lengths}
-use Rattle.batch.specs.declared.Report.{Report}
-use Rattle.batch.specs.declared.Report.TheVariants.{Accepted, Short, Refused}
 use Rattle.batch.proofs.Numbers.{check_numbers}
 use Rattle.decoding.specs.Logs.{log_length, decoded}
 use Rattle.decoding.specs.Numbers.{DecodedBy}
@@ -27,9 +27,9 @@ use Rattle.interface.specs.declared.Summary.{Summary}
 
 -- They are document 01's number and place, and all that is reported with them, in its order.
 pub summary_read : (r : Report) → summary_reading (summary_of r) ≡ reading_of r
-summary_read (Accepted e) = refl
-summary_read (Short n place e) = refl
-summary_read (Refused n place) = refl
+summary_read (Ok e) = refl
+summary_read (Err (Short f e)) = refl
+summary_read (Err (Broken f)) = refl
 
 pub outcome_fields_lem : (a : Answer) → outcome_fields (outcome_of a) ≡ answer.number_of a ∷ answer.place_of a ∷ []
 outcome_fields_lem a = refl

@@ -5,7 +5,7 @@ use Rattle.std.specs.Prelude.{ℕ, true, List, ◌≡◌}
 use Rattle.lists.specs.Calls.{Along}
 use Rattle.batch.specs.Reports.{finish}
 use Rattle.batch.specs.declared.Lengths.{Lengths}
-use Rattle.parts.specs.States.{walk_in, Begun, Handed}
+use Rattle.parts.specs.States.{has_stopped, walk_in, Begun, Handed}
 use Rattle.memory.specs.Memory.{state_in}
 use Rattle.interface.specs.Summaries.{summary_of}
 use Rattle.interface.specs.declared.Summary.{Summary}
@@ -17,7 +17,7 @@ MemoryBegun l m = Begun l (state_in m)
 -- The memory `r` after a part that was handed over to the memory `m`. A check that has stopped leaves every word of it as it was.
 pub record MemoryHanded (m part r : List ℕ) : Type 0 where
   pub handed : Handed (state_in m) part (state_in r)
-  pub stays : (state_in m).stopped ≡ true → r ≡ m
+  pub stays : has_stopped (state_in m) ≡ true → r ≡ m
 
 -- The answer to all words so far.
 unfoldable pub summary_in : List ℕ → Summary

@@ -1,31 +1,27 @@
 -- Mount sheets, as structs of numbers: document 02's numbers and places (R-9), and what the exported functions promise.
 -- To be believed: the structs' fields. `found_fields`, `added_fields` and `turned_fields` (proofs/MountLaws.antt) read them in their order.
-use Rattle.std.specs.Prelude.{ℕ, ℤ, pos, List, ◌≡◌}
+use Rattle.std.specs.Prelude.{ℕ, ℤ, pos, List, ◌≡◌, Ok, Err}
 use Rattle.answers.specs.Answers as answer
 use Rattle.mounts.specs.Claims.{Book, Call, lent_with}
-use Rattle.mounts.specs.Mounts.{asked, added, bytes_after}
+use Rattle.mounts.specs.Mounts.{asked, added, bytes_after, Asked}
 use Rattle.mounts.specs.Sheets.{sheet}
-use Rattle.mounts.specs.Signs.{shift, vector_on}
+use Rattle.mounts.specs.Signs.{shift, vector_on, Turned}
 use Rattle.mounts.specs.declared.Added.{Added}
-use Rattle.mounts.specs.declared.Asked.{Asked}
-use Rattle.mounts.specs.declared.Asked.TheVariants as asking
-use Rattle.mounts.specs.declared.Turned.{Turned}
-use Rattle.mounts.specs.declared.Turned.TheVariants as turning
 use Rattle.interface.specs.declared.Mount.{Mount}
 use Rattle.interface.specs.declared.MountShift.{MountShift}
 use Rattle.interface.specs.declared.Mounts.{Mounts}
 
 -- What asking, adding and turning answer. Values beside a refusal are zeros, but adding gives the number of sheets as it was.
 abbrev pub mount_of : Asked → Mount
-mount_of (asking.Found s) = record { number = 0; place = 0; edition = s.edition; side = s.side }
-mount_of (asking.Refused n p) = record { number = n; place = p; edition = 0; side = 0 }
+mount_of (Ok s) = record { number = 0; place = 0; edition = s.edition; side = s.side }
+mount_of (Err f) = record { number = f.number; place = f.place; edition = 0; side = 0 }
 
 abbrev pub mounts_of : Added → Mounts
 mounts_of a = record { number = answer.number_of a.answer; place = answer.place_of a.answer; count = a.count }
 
 abbrev pub mount_shift_of : Turned → MountShift
-mount_shift_of (turning.Vector v) = record { number = 0; place = 0; x = v.x; y = v.y }
-mount_shift_of (turning.Refused n p) = record { number = n; place = p; x = pos 0; y = pos 0 }
+mount_shift_of (Ok v) = record { number = 0; place = 0; x = v.x; y = v.y }
+mount_shift_of (Err f) = record { number = f.number; place = f.place; x = pos 0; y = pos 0 }
 
 -- Asking in lent bytes, adding to them, and turning a shift.
 abbrev pub MountAsked : List ℕ → ℕ → ℕ → ℕ → Mount → Type 0

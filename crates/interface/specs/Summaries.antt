@@ -1,12 +1,11 @@
 -- Answers as structs of numbers: document 01's number, place and lengths, and document 02's first bytes (R-8).
 -- To be believed: the structs' fields. `summary_read` and `outcome_fields_lem` (proofs/SummaryLaws.antt) read them in their order.
 use Rattle.answers.specs.Answers as answer
-use Rattle.answers.specs.declared.Answer.{Answer}
+use Rattle.answers.specs.Answers.{Answer}
 use Rattle.progress.specs.Buffers.{Buffer, source, reconstructed, forward, backward}
 use Rattle.batch.specs.Demand.{Reading, reading_of, length_for, first_for}
-use Rattle.batch.specs.Reports.{report_number, report_place}
+use Rattle.batch.specs.Reports.{report_number, report_place, Report}
 use Rattle.batch.specs.declared.Lengths.{Lengths}
-use Rattle.batch.specs.declared.Report.{Report}
 use Rattle.interface.specs.declared.Outcome.{Outcome}
 use Rattle.interface.specs.declared.Summary.{Summary}
 use Rattle.std.specs.Prelude.{List, [], ◌∷◌, ◌++◌, ℕ}

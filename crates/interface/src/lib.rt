@@ -1,4 +1,5 @@
-// What the library for C answers, as numbers in structs, and its version.
+// What the library for C answers, as numbers in structs, and its version. C has no `Result`: a number and a place stand beside the values,
+// and these are zero in a refusal.
 #![tactic(auto)]
 
 use batch::Lengths;

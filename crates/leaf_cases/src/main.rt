@@ -8,40 +8,67 @@
 // lines that are due.
 #![tactic(auto)]
 
-use prediction::{Block, Grid, Position, Structure, Surface};
+ghost use Rattle.std.specs.Prelude.{◌+◌, ◌≤◌};
+
+use prediction::{Extent, Grid, Position, Structure, Surface};
 use prediction_code::extents;
-use std::io;
 use std::io::{ErrorKind, Read};
+use std::{fmt, io};
 
-fn fields_case(rt: &impl Print, case: &[u8; 24]) -> io::Result<()> {
-    let hi = case[2];
-    let lo = case[3];
-    let word = fields_code::number32(case[4], case[5], case[6], case[7]);
-    let value = fields_code::number32(case[16], case[17], case[18], case[19]);
-    let bits = fields_code::bits(word, hi, lo);
-    let changed = fields_code::with_bits(word, hi, lo, value);
-    println!(rt; "{bits:08x} {changed:08x}")
+type Case = [u8; 24];
+
+// The numbers that stand in a case from a place on. Each program of cases has its own: what differs is the bound.
+fn half_at(case: &Case, at: usize) -> u16
+    requires { at + 2 ≤ 24 }
+{
+    fields_code::number16(case[at], case[at + 1])
 }
 
-fn print_label(rt: &impl Print, label: u8) -> io::Result<()> {
-    if label != 0 {
-        print!(rt; "P{label} ")?;
-    }
-    Ok(())
+fn word_at(case: &Case, at: usize) -> u32
+    requires { at + 4 ≤ 24 }
+{
+    fields_code::number32(case[at], case[at + 1], case[at + 2], case[at + 3])
 }
 
-fn print_block(rt: &impl Print, block: Block) -> io::Result<()> {
-    match block {
-        Block::Outside => println!(rt; "outside"),
-        Block::Inside(extent) => {
-            let touched = extents::join(extents::empty(), extent);
-            let end = touched.end;
-            let first = touched.first;
-            println!(rt; "inside {end} {first}")
+// What stands before the line of one of document 01's cases: its number, which is not 0.
+#[derive(Clone, Copy)]
+struct Label(u8);
+
+impl fmt::Display for Label {
+    fn fmt<W: fmt::Write>(&self, f: &mut fmt::Formatter<W>) -> fmt::Result {
+        match self.0 {
+            0 => Ok(()),
+            number => write!(f, "P{number} "),
         }
     }
 }
 
+// What a block touches.
+#[derive(Clone, Copy)]
+struct Touched(Option<Extent>);
+
+impl fmt::Display for Touched {
+    fn fmt<W: fmt::Write>(&self, f: &mut fmt::Formatter<W>) -> fmt::Result {
+        match self.0 {
+            None => write!(f, "outside"),
+            Some(extent) => {
+                let touched = extents::join(extents::empty(), extent);
+                write!(f, "inside {} {}", touched.end, touched.first)
+            }
+        }
+    }
+}
+
+fn fields_case(rt: &impl Print, case: &Case) -> io::Result<()> {
+    let hi = case[2];
+    let lo = case[3];
+    let word = word_at(case, 4);
+    let bits = fields_code::bits(word, hi, lo);
+    let changed = fields_code::with_bits(word, hi, lo, word_at(case, 16));
+    println!(rt; "{bits:08x} {changed:08x}")
+}
+
+// A structure by its number in a case. No `From`: both types are of other crates, and one with definitions declares no function.
 fn structure_of(number: u8) -> Structure {
     match number {
         1 => Structure::TopField,
@@ -50,62 +77,47 @@ fn structure_of(number: u8) -> Structure {
     }
 }
 
-fn block_case(rt: &impl Print, case: &[u8; 24]) -> io::Result<()> {
-    let chroma_row = fields_code::number16(case[2], case[3]);
-    let pitch = fields_code::number32(case[4], case[5], case[6], case[7]);
-    let columns = fields_code::number16(case[8], case[9]);
-    let rows = fields_code::number16(case[10], case[11]);
-    let column = fields_code::number16(case[12], case[13]);
-    let row = fields_code::number16(case[14], case[15]);
+fn block_case(rt: &impl Print, case: &Case) -> io::Result<()> {
     let structure = structure_of(case[1]);
-    print_label(rt, case[22])?;
-    let vector = prediction_code::vector_of(fields_code::number32(
-        case[16], case[17], case[18], case[19],
-    ));
+    let surface = Surface {
+        pitch: word_at(case, 4),
+        chroma_row: half_at(case, 2),
+    };
+    let grid = Grid {
+        columns: half_at(case, 8),
+        rows: half_at(case, 10),
+    };
+    let position = Position {
+        column: half_at(case, 12),
+        row: half_at(case, 14),
+    };
+    let vector = prediction_code::vector_of(word_at(case, 16));
     let word = prediction_code::word_of(vector);
-    print!(rt; "{word:08x}")?;
-    if prediction_code::vector_in_range(structure, vector, case[20], case[21]) {
-        print!(rt; " range ")?;
+    let range = if prediction_code::vector_in_range(structure, vector, case[20], case[21]) {
+        "range"
     } else {
-        print!(rt; " beyond ")?;
-    }
-    let surface = Surface { pitch, chroma_row };
-    let grid = Grid { columns, rows };
-    let position = Position { column, row };
-    print_block(
-        rt,
-        prediction_code::block_at(structure, surface, grid, position, vector),
-    )
+        "beyond"
+    };
+    let block = prediction_code::block_at(structure, surface, grid, position, vector);
+    println!(rt; "{}{word:08x} {range} {}", Label(case[22]), Touched(block))
 }
 
-// Fills the buffer from the input, and answers whether that has as many bytes.
-fn is_read(input: &mut impl Read, buffer: &mut [u8]) -> io::Result<bool> {
-    match input.read_exact(buffer) {
-        Ok(()) => Ok(true),
-        Err(e) if e.kind() == ErrorKind::UnexpectedEof => Ok(false),
-        Err(e) => Err(e),
+fn run_case(rt: &impl Print, case: &Case) -> io::Result<()> {
+    match case[0] {
+        0 => fields_case(rt, case),
+        _ => block_case(rt, case),
     }
 }
 
-// Runs the next case and answers whether there was one.
-fn next_case(rt: &impl Print, input: &mut impl Read) -> io::Result<bool> {
-    let mut case = [0u8; 24];
-    if !is_read(input, &mut case)? {
-        return Ok(false);
-    }
-    if case[0] == 0 {
-        fields_case(rt, &case)?;
-    } else {
-        block_case(rt, &case)?;
-    }
-    Ok(true)
-}
-
+// The loop stands in command_cases too: a library for these lines would need definitions, a contract and must-fail edits of its own.
 fn main(rt: HostRuntime) -> io::Result<()> {
     let mut input = rt.stdin();
+    let mut case = [0u8; 24];
     for _ in 0..100000u32 {
-        if !next_case(&rt, &mut input)? {
-            break;
+        match input.read_exact(&mut case) {
+            Ok(()) => run_case(&rt, &case)?,
+            Err(e) if e.kind() == ErrorKind::UnexpectedEof => break,
+            Err(e) => return Err(e),
         }
     }
     Ok(())

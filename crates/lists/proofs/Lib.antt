@@ -1,4 +1,5 @@
 -- for the crates above
+pub mod Appending
 pub mod Booleans
 pub mod Slices
 pub mod Stepping

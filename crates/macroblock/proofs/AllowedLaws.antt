@@ -9,8 +9,7 @@ use lib.Dec.{eqb, leb}
 use Rattle.lists.proofs.Booleans.{and_left, and_right, both_true}
 use Rattle.fields.specs.Word.{bits, is_set, flag, has_bits, zero_bits}
 use Rattle.headers.specs.Words.{word_at}
-use Rattle.answers.specs.Answers.{judged, holds_at}
-use Rattle.answers.specs.declared.Answer.TheVariants.{Accepted}
+use Rattle.answers.specs.Answers.{judged, holds_at, Accepted}
 use Rattle.answers.proofs.Judging.{all_hold, none_broken, hold_both, hold_each, rule_kept}
 use Rattle.macroblock.specs.Cases.{is_field}
 use Rattle.macroblock.specs.Macroblocks.{intra_type, kind_in, motion_in, macroblock_of}

@@ -11,10 +11,8 @@ use lib.Pow.{pow_pos, shr-shr, mod-pow-add}
 use Rattle.lists.proofs.Booleans.{no, both, not_and}
 use Rattle.fields.specs.Word.{width, bits, is_set, zero_bits}
 use Rattle.headers.specs.Words.{word_at}
-use Rattle.answers.specs.Answers.{Rule, rule, judged, earlier}
+use Rattle.answers.specs.Answers.{Rule, rule, judged, earlier, Accepted, refused, Answer}
 use Rattle.answers.specs.Tables.{Each}
-use Rattle.answers.specs.declared.Answer.{Answer}
-use Rattle.answers.specs.declared.Answer.TheVariants.{Accepted, Refused}
 use Rattle.answers.proofs.Judging.{in_order, judged_append, judged_by}
 use Rattle.macroblock.specs.Before.{by_kind_before, without_dct, macroblock_before, vector_words_before, type_permitted_before, fixed1_before, fixed4_before, field_rules_before, vector_rules_before, command_rules_before}
 use Rattle.macroblock.specs.Cases.{by_kind, case_of, is_field, vector_words}
@@ -92,16 +90,16 @@ same_table ea eb ec ed ee ef eg = cc
 
 -- The refusal of a type that is not permitted, 4 where a fixed bit of word 1 is wrong too.
 abbrev pub four_refused : ℕ → Answer
-four_refused w = cond (fixed1_before w) (Refused 5 1) (Refused 4 1)
+four_refused w = cond (fixed1_before w) (refused 5 1) (refused 4 1)
 
-type_broken : (a b c : Bool) (r : Answer) → b ≡ false → cond a (cond (b && c) r (Refused 5 1)) (Refused 4 1) ≡ cond a (Refused 5 1) (Refused 4 1)
-type_broken a b c r e = ap (λ (x : Bool). cond a (cond (x && c) r (Refused 5 1)) (Refused 4 1)) e
+type_broken : (a b c : Bool) (r : Answer) → b ≡ false → cond a (cond (b && c) r (refused 5 1)) (refused 4 1) ≡ cond a (refused 5 1) (refused 4 1)
+type_broken a b c r e = ap (λ (x : Bool). cond a (cond (x && c) r (refused 5 1)) (refused 4 1)) e
 
 -- An answer that comes before neither of these two: each of them is given in its place.
 abbrev pub Later : Answer → Type 0
-Later a = (earlier a (Refused 4 1) ≡ Refused 4 1) × (earlier a (Refused 5 1) ≡ Refused 5 1)
+Later a = (earlier a (refused 4 1) ≡ refused 4 1) × (earlier a (refused 5 1) ≡ refused 5 1)
 
-overruled : (x : Bool) (rs : List Rule) → Each Later rs → earlier (judged rs) (cond x (Refused 5 1) (Refused 4 1)) ≡ cond x (Refused 5 1) (Refused 4 1)
+overruled : (x : Bool) (rs : List Rule) → Each Later rs → earlier (judged rs) (cond x (refused 5 1) (refused 4 1)) ≡ cond x (refused 5 1) (refused 4 1)
 overruled true rs l = (judged_by Later (refl, refl) rs l).1
 overruled false rs l = (judged_by Later (refl, refl) rs l).0
 
@@ -177,7 +175,7 @@ module _ (ws : List ℕ) where
     four_now =
         in_order (command_rules neither ws) tt
         ∙ type_broken (fixed1 neither (w 1)) (type_permitted neither (w 1)) _ _ no-type
-        ∙ ap (λ (x : Bool). cond x (Refused 5 1) (Refused 4 1)) (same_fixed1 (w 1))
+        ∙ ap (λ (x : Bool). cond x (refused 5 1) (refused 4 1)) (same_fixed1 (w 1))
 
     pub four_before : judged (command_rules_before ws) ≡ four_refused (w 1)
     unfolding command_rules_before field_rules_before vector_rules_before

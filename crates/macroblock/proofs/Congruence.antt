@@ -1,14 +1,7 @@
 -- Equal parts make equal wholes, for the proofs of the functions: over plain variables, so that each is checked once.
-use mathlib.Core.Path.{◌≡◌, ap, ap₂, ◌∙◌}
+use mathlib.Core.Path.{◌≡◌}
 use mathlib.Core.Bool.{Bool}
-use mathlib.Core.List.{List, ◌∷◌}
 use Prim.Native.Nat.{ℕ}
-use lib.Dec.{eqb}
-use lib.ListN.{get_or}
-use Rattle.macroblock.specs.Cases.{vector_words}
-use Rattle.headers.specs.Words.{word_at}
-use Rattle.macroblock.specs.Macroblocks.{motion_in, assembled}
-use Rattle.macroblock.specs.Rules.{copied}
 use Rattle.macroblock.specs.declared.Case.{Case}
 use Rattle.macroblock.specs.declared.Flags.{Flags}
 use Rattle.macroblock.specs.declared.Macroblock.{Macroblock}
@@ -25,15 +18,3 @@ made a b c d e k f g h i j =
 
 pub same_macroblock : {a b c a' b' c' : ℕ} {d d' : Case} {e k e' k' : Bool} {f g h i f' g' h' i' : ℕ} {j j' : Flags} → a ≡ a' → b ≡ b' → c ≡ c' → d ≡ d' → e ≡ e' → k ≡ k' → f ≡ f' → g ≡ g' → h ≡ h' → i ≡ i' → j ≡ j' → made a b c d e k f g h i j ≡ made a' b' c' d' e' k' f' g' h' i' j'
 same_macroblock ea eb ec ed ee ek ef eg eh ei ej = cc
-
-pub same_assembled : {a b c d a' b' c' d' : ℕ} {e e' : Case} → a ≡ a' → b ≡ b' → c ≡ c' → d ≡ d' → e ≡ e' → assembled a b c d e ≡ assembled a' b' c' d' e'
-same_assembled {a} {b} {c} {d} {a'} {b'} {c'} {d'} {e} {e'} ea eb ec ed ee =
-    ap₂ (λ (x y : ℕ). assembled x y c d e) ea eb ∙ ap₂ (λ (x y : ℕ). assembled a' b' x y e) ec ed ∙ ap (assembled a' b' c' d') ee
-
--- a word against its copy, from what the code read
-pub copied_by : (ws : List ℕ) (i j : ℕ) {w : ℕ} {vs : List ℕ} → w ≡ word_at ws i → vs ≡ vector_words (motion_in ws) → eqb w (get_or vs j 0) ≡ copied ws i j
-copied_by ws i j ew ev = ap₂ (λ (x : ℕ) (xs : List ℕ). eqb x (get_or xs j 0)) ew ev
-
--- nine words from the header, words 1 to 4 and the vectors
-pub same_words : {h a b c d a' b' c' d' : ℕ} {v v' : List ℕ} → a ≡ a' → b ≡ b' → c ≡ c' → d ≡ d' → v ≡ v' → h ∷ a ∷ b ∷ c ∷ d ∷ v ≡ h ∷ a' ∷ b' ∷ c' ∷ d' ∷ v'
-same_words ea eb ec ed ev = cc

@@ -4,11 +4,10 @@ use Rattle.std.specs.Prelude.{ℕ, ◌<◌, ◌^◌, true, not, ◌&&◌, List, 
 use Rattle.std.specs.Int.{w16}
 use Rattle.std.proofs.Common.{SFits}
 use Rattle.prediction.specs.declared.Vector.{Vector}
-use Rattle.answers.specs.Answers.{judged}
+use Rattle.answers.specs.Answers.{judged, Accepted}
 use Rattle.headers.specs.Headers.{macroblock_header}
 use Rattle.headers.specs.Words.{word_at}
 use Rattle.macroblock.specs.Rules.{kept_by, command_rules, alone}
-use Rattle.answers.specs.declared.Answer.TheVariants.{Accepted}
 use Rattle.macroblock.specs.declared.Prediction.TheVariants.{Forward, Backward, Both, Field}
 use Rattle.macroblock.specs.declared.Case.{Case}
 use Rattle.macroblock.specs.declared.Case.TheVariants.{Intra, Inter}

@@ -24,6 +24,7 @@ pub enum Case {
 // none, and a field prediction's choices. The top field's vector is the forward one.
 #[derive(Clone, Copy)]
 pub struct Motion {
+    // A number and no enum: `kind_in` keeps what word 1 says, legal or not.
     pub kind: u8,
     pub forward: u32,
     pub backward: u32,

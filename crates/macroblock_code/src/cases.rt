@@ -1,17 +1,33 @@
-// A macroblock's case as numbers, and back.
+// A macroblock's case as numbers, and back. Functions and no `From`: both types are of a crate of definitions, which declares no function.
 ghost use Rattle.std.specs.Prelude.{◌≡◌, false};
 ghost use Rattle.macroblock.specs.Cases.{motion, motion_of, case_of, is_field};
 ghost use Rattle.macroblock.specs.Macroblocks.{is_intra};
 
 use macroblock::{Case, Motion, Prediction};
+use prediction_code::{vector_of, word_of};
 
 // The kind and the vector words of a case.
+#[tactic(auto, unfolding(macroblock::specs::Cases::motion_of))]
 pub fn motion_of(case: Case) -> Motion
     ensures { result ≡ motion_of case }
 {
     match case {
         Case::Intra => frame_motion(0, 0, 0),
-        Case::Inter(by) => inter_motion(by),
+        Case::Inter(Prediction::Forward(vector)) => frame_motion(1, word_of(vector), 0),
+        Case::Inter(Prediction::Backward(vector)) => frame_motion(2, 0, word_of(vector)),
+        Case::Inter(Prediction::Both(first, second)) => {
+            frame_motion(3, word_of(first), word_of(second))
+        }
+        Case::Inter(Prediction::Field(top, bottom, top_from_bottom, bottom_from_bottom)) => {
+            Motion {
+                kind: 4,
+                forward: word_of(top),
+                backward: 0,
+                bottom: word_of(bottom),
+                top_from_bottom,
+                bottom_from_bottom,
+            }
+        }
     }
 }
 
@@ -29,56 +45,21 @@ fn frame_motion(kind: u8, forward: u32, backward: u32) -> Motion
     }
 }
 
-fn inter_motion(by: Prediction) -> Motion
-    ensures { result ≡ motion_of (Case.Inter by) }
-{
-    match by {
-        Prediction::Forward(vector) => {
-            let forward = prediction_code::word_of(vector);
-            frame_motion(1, forward, 0)
-        }
-        Prediction::Backward(vector) => {
-            let backward = prediction_code::word_of(vector);
-            frame_motion(2, 0, backward)
-        }
-        Prediction::Both(first, second) => {
-            let forward = prediction_code::word_of(first);
-            let backward = prediction_code::word_of(second);
-            frame_motion(3, forward, backward)
-        }
-        Prediction::Field(top, second, top_from_bottom, bottom_from_bottom) => {
-            let forward = prediction_code::word_of(top);
-            let bottom = prediction_code::word_of(second);
-            Motion {
-                kind: 4,
-                forward,
-                backward: 0,
-                bottom,
-                top_from_bottom,
-                bottom_from_bottom,
-            }
-        }
-    }
-}
-
 // The case of a kind, vector words and choices; intra for a kind that is none of 1 to 4.
+#[tactic(auto, unfolding(macroblock::specs::Cases::case_of))]
 pub fn case_of(motion: Motion) -> Case
     ensures { result ≡ case_of motion }
 {
-    let kind = motion.kind;
     let forward = motion.forward;
     let backward = motion.backward;
     let bottom = motion.bottom;
-    match kind {
-        1 => Case::Inter(Prediction::Forward(prediction_code::vector_of(forward))),
-        2 => Case::Inter(Prediction::Backward(prediction_code::vector_of(backward))),
-        3 => Case::Inter(Prediction::Both(
-            prediction_code::vector_of(forward),
-            prediction_code::vector_of(backward),
-        )),
+    match motion.kind {
+        1 => Case::Inter(Prediction::Forward(vector_of(forward))),
+        2 => Case::Inter(Prediction::Backward(vector_of(backward))),
+        3 => Case::Inter(Prediction::Both(vector_of(forward), vector_of(backward))),
         4 => Case::Inter(Prediction::Field(
-            prediction_code::vector_of(forward),
-            prediction_code::vector_of(bottom),
+            vector_of(forward),
+            vector_of(bottom),
             motion.top_from_bottom,
             motion.bottom_from_bottom,
         )),
@@ -89,28 +70,11 @@ pub fn case_of(motion: Motion) -> Case
 pub(crate) fn is_intra(case: Case) -> bool
     ensures { result ≡ is_intra case }
 {
-    match case {
-        Case::Intra => true,
-        Case::Inter(_) => false,
-    }
+    matches!(case, Case::Intra)
 }
 
 pub(crate) fn is_field(case: Case) -> bool
     ensures { result ≡ is_field case }
 {
-    match case {
-        Case::Intra => false,
-        Case::Inter(by) => by_field(by),
-    }
-}
-
-fn by_field(by: Prediction) -> bool
-    ensures { result ≡ is_field (Case.Inter by) }
-{
-    match by {
-        Prediction::Forward(_) => false,
-        Prediction::Backward(_) => false,
-        Prediction::Both(_, _) => false,
-        Prediction::Field(_, _, _, _) => true,
-    }
+    matches!(case, Case::Inter(Prediction::Field(..)))
 }

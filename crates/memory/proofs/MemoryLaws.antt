@@ -8,9 +8,11 @@ use lib.ListN.{length, get_or, set, length-append, length-map, length-set, get_o
 use Rattle.fields.proofs.Elements.{elements_all}
 use Rattle.fields.proofs.Fields.{flag_nonzero}
 use Rattle.fields.specs.Bytes.{elements}
+use Rattle.std.specs.Prelude.{cond, Option, None, Some, is_some}
+use Rattle.answers.specs.declared.Fault.{Fault}
 use Rattle.parts.specs.declared.State.{State}
 use Rattle.memory.specs.Places.{memory_words, buffer_words}
-use Rattle.memory.specs.Memory.{stored_buffer, state_in, fields_of, placed, room, state_words, Fitting}
+use Rattle.memory.specs.Memory.{stored_buffer, state_in, halt_number, halt_place, fields_of, placed, room, state_words, Fitting}
 
 length_elements : (xs : List ℕ) (i k : ℕ) → length (elements xs i k) ≡ k
 length_elements xs i zero = refl
@@ -48,6 +50,11 @@ buffer_back : (s : State) → Fitting s → stored_buffer (memory_with s (elemen
 unfolding stored_buffer
 buffer_back s f = uncut s.buffer 0 buffer_words f.buffer ∙ listed s f
 
+-- The fault is read again by its flag, its number and its place.
+fault_back : (x : Option Fault) → cond (is_some x) (Some (record { number = halt_number x; place = halt_place x })) None ≡ x
+fault_back None = refl
+fault_back (Some f) = refl
+
 -- What is read of a state that was stored is that state.
 pub stored_read : (s : State) → Fitting s → state_in (state_words s) ≡ s
 unfolding state_in state_words
@@ -75,6 +82,7 @@ stored_read s f =
       mod-eq_of_lt f.eight,
       mod-eq_of_lt f.at,
       mod-eq_of_lt f.number,
+      fault_back s.fault,
       buffer_back s f,
     )
 

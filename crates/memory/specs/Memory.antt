@@ -2,7 +2,7 @@
 -- program; what holds of it is what it stands for, a state of `parts`, and every content stands for one. The words of the buffer come
 -- first, then a word for each field of the state, each at its place (Places.antt); those behind them are room for fields to come.
 -- Proved: reading gives back what was stored, by `stored_read` (proofs/MemoryLaws.antt).
-use Rattle.std.specs.Prelude.{ℕ, ◌-◌, ◌%◌, ◌^◌, ◌<◌, Bool, not, List, [], ◌∷◌, ◌++◌, map, eqb, get_or, set, replicate, length, ◌≡◌}
+use Rattle.std.specs.Prelude.{ℕ, ◌-◌, ◌%◌, ◌^◌, ◌<◌, Bool, not, cond, Option, None, Some, is_some, List, [], ◌∷◌, ◌++◌, map, eqb, get_or, set, replicate, length, ◌≡◌}
 use Rattle.fields.specs.Bytes.{elements}
 use Rattle.fields.specs.Word.{flag}
 use Rattle.picture.specs.declared.Frame.{Frame}
@@ -13,6 +13,7 @@ use Rattle.progress.specs.declared.Previous.{Previous}
 use Rattle.progress.specs.declared.Progress.{Progress}
 use Rattle.progress.specs.declared.Stage.{Stage}
 use Rattle.batch.specs.declared.Lengths.{Lengths}
+use Rattle.answers.specs.declared.Fault.{Fault}
 use Rattle.parts.specs.declared.State.{State}
 use Rattle.memory.specs.Places as places
 use Rattle.memory.specs.Places.{buffer_words}
@@ -97,15 +98,17 @@ stored_lengths m = record { source = stored_word m places.source_length; reconst
 unfoldable pub stored_buffer : List ℕ → List ℕ
 stored_buffer m = map (λ w. w % 2 ^ 32) (elements m 0 places.buffer_words)
 
+-- The number and place count only where the flag before them is set.
+abbrev pub stored_halt : List ℕ → Option Fault
+stored_halt m = cond (stored_flag m places.stopped) (Some (record { number = stored_number 8 m places.number; place = stored_word m places.place })) None
+
 unfoldable pub state_in : List ℕ → State
 state_in m =
     record {
       progress = stored_progress m;
       at = stored_number 32 m places.at;
       held = stored_word m places.held;
-      stopped = stored_flag m places.stopped;
-      number = stored_number 8 m places.number;
-      place = stored_word m places.place;
+      fault = stored_halt m;
       lengths = stored_lengths m;
       buffer = stored_buffer m;
     }
@@ -175,13 +178,21 @@ progress_fields p =
     ++ previous_fields p.previous
     ++ extents_fields p.extents
 
+abbrev pub halt_number : Option Fault → ℕ
+halt_number None = 0
+halt_number (Some f) = f.number
+
+abbrev pub halt_place : Option Fault → ℕ
+halt_place None = 0
+halt_place (Some f) = f.place
+
 abbrev pub own_fields : State → List (ℕ × ℕ)
 own_fields s =
     (places.at, s.at)
     ∷ (places.held, s.held)
-    ∷ (places.stopped, flag s.stopped)
-    ∷ (places.number, s.number)
-    ∷ (places.place, s.place)
+    ∷ (places.stopped, flag (is_some s.fault))
+    ∷ (places.number, halt_number s.fault)
+    ∷ (places.place, halt_place s.fault)
     ∷ []
 
 abbrev pub lengths_fields : Lengths → List (ℕ × ℕ)
@@ -228,6 +239,6 @@ pub record Fitting (s : State) : Type 0 where
   pub seven : s.progress.previous.seven < 2 ^ 32
   pub eight : s.progress.previous.eight < 2 ^ 32
   pub at : s.at < 2 ^ 32
-  pub number : s.number < 2 ^ 8
+  pub number : halt_number s.fault < 2 ^ 8
   pub held_words : length s.buffer ≡ buffer_words
   pub buffer : (i : ℕ) → get_or s.buffer i 0 < 2 ^ 32

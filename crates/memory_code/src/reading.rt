@@ -1,8 +1,9 @@
 // The state that words of memory stand for. Any content stands for one: numbers are cut to their width, and a flag is any word but 0.
 ghost use Rattle.std.specs.Prelude.{◌≡◌};
-ghost use Rattle.memory.specs.Memory.{stored_stage, stored_frame, stored_picture, stored_position, stored_previous, stored_extents, stored_progress, stored_lengths, stored_buffer, state_in};
+ghost use Rattle.memory.specs.Memory.{stored_stage, stored_frame, stored_picture, stored_position, stored_previous, stored_extents, stored_progress, stored_lengths, stored_buffer, stored_halt, state_in};
 
 use crate::places;
+use answers::Fault;
 use batch::Lengths;
 use parts::State;
 use picture::{Codes, Frame, Picture};
@@ -129,12 +130,22 @@ fn buffer_in(memory: &[u64; memory::WORDS]) -> [u32; places::BUFFER_WORDS]
     ensures { result ≡ stored_buffer memory.now }
 {
     let mut buffer = [0u32; places::BUFFER_WORDS];
-    let mut i = 0;
-    while i < places::BUFFER_WORDS {
-        buffer[i] = (memory[i] % 4294967296) as u32;
-        i += 1;
+    for (i, word) in buffer.iter_mut().enumerate() {
+        *word = (memory[i] % 4294967296) as u32;
     }
     buffer
+}
+
+fn fault_in(memory: &[u64; memory::WORDS]) -> Option<Fault>
+    ensures { result ≡ stored_halt memory.now }
+{
+    if memory[places::STOPPED] == 0 {
+        return None;
+    }
+    Some(Fault {
+        number: (memory[places::NUMBER] % 256) as u8,
+        place: memory[places::PLACE],
+    })
 }
 
 // The whole state.
@@ -142,15 +153,14 @@ pub fn state_in(memory: &[u64; memory::WORDS]) -> State
     ensures { result ≡ state_in memory.now }
 {
     let progress = progress_in(memory);
+    let fault = fault_in(memory);
     let lengths = lengths_in(memory);
     let buffer = buffer_in(memory);
     State {
         progress,
         at: (memory[places::AT] % 4294967296) as u32,
         held: memory[places::HELD] as usize,
-        stopped: memory[places::STOPPED] != 0,
-        number: (memory[places::NUMBER] % 256) as u8,
-        place: memory[places::PLACE],
+        fault,
         lengths,
         buffer,
     }

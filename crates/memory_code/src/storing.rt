@@ -1,9 +1,10 @@
 // The words of memory that stand for a state.
-ghost use Rattle.std.specs.Prelude.{◌≡◌, ◌++◌, length, drop};
+ghost use Rattle.std.specs.Prelude.{◌≡◌, ◌++◌, ◌^◌, ◌<◌, length, drop};
 ghost use Rattle.memory.specs.Places.{memory_words, buffer_words};
-ghost use Rattle.memory.specs.Memory.{stage_fields, frame_fields, picture_fields, position_fields, previous_fields, extents_fields, progress_fields, own_fields, lengths_fields, placed, state_in, state_words};
+ghost use Rattle.memory.specs.Memory.{stage_fields, frame_fields, picture_fields, position_fields, previous_fields, extents_fields, progress_fields, own_fields, halt_number, lengths_fields, placed, state_in, state_words};
 
 use crate::places;
+use answers::Fault;
 use batch::Lengths;
 use parts::State;
 use picture::{Frame, Picture};
@@ -14,10 +15,8 @@ fn put_buffer(buffer: [u32; places::BUFFER_WORDS], memory: &mut [u64; memory::WO
     requires { length memory.old ≡ memory_words }
     ensures { memory.new ≡ buffer ++ drop buffer_words memory.old }
 {
-    let mut i = 0;
-    while i < places::BUFFER_WORDS {
-        memory[i] = buffer[i] as u64;
-        i += 1;
+    for (i, word) in buffer.iter().enumerate() {
+        memory[i] = *word as u64;
     }
 }
 
@@ -97,13 +96,17 @@ fn put_progress(progress: Progress, memory: &mut [u64; memory::WORDS])
 }
 
 fn put_own(state: State, memory: &mut [u64; memory::WORDS])
-    ensures { memory.new ≡ placed (own_fields state) memory.old }
+    ensures { (memory.new ≡ placed (own_fields state) memory.old) × (halt_number state.fault < 2 ^ 8) }
 {
     memory[places::AT] = state.at as u64;
     memory[places::HELD] = state.held as u64;
-    memory[places::STOPPED] = state.stopped as u64;
-    memory[places::NUMBER] = state.number as u64;
-    memory[places::PLACE] = state.place;
+    memory[places::STOPPED] = state.fault.is_some() as u64;
+    let fault = state.fault.unwrap_or(Fault {
+        number: 0,
+        place: 0,
+    });
+    memory[places::NUMBER] = fault.number as u64;
+    memory[places::PLACE] = fault.place;
 }
 
 fn put_lengths(lengths: Lengths, memory: &mut [u64; memory::WORDS])

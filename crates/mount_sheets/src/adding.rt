@@ -1,9 +1,8 @@
 // Adding a sheet. The file is opened for writing only when the sheet was accepted.
-ghost use Rattle.std.specs.Prelude.{◌≤◌};
+ghost use Rattle.std.specs.Prelude.{◌≤◌, length, IfOk, IfSome};
 
+use crate::failing::Failure;
 use crate::{printing, reading, writing};
-use answers::Answer;
-use reading::Outcome;
 use std::rt::Files;
 
 // How many bytes are lent for adding: all, or only the file's own if it does not end with a whole record, since that is refused.
@@ -17,11 +16,14 @@ fn lent_bytes(len: usize, capacity: usize) -> usize
     len
 }
 
-fn is_missing(outcome: Outcome) -> bool {
-    if let Outcome::Missing(_) = outcome {
-        true
-    } else {
-        false
+// Reads the file, and answers how many bytes it has if there is one.
+fn read(rt: &impl Files, path: &str, room: &mut [u8]) -> Result<Option<usize>, Failure>
+    ensures { IfOk result (λ found. IfSome found (λ len. len ≤ length room.new)) }
+{
+    match reading::read(rt, path, room) {
+        Ok(len) => Ok(Some(len)),
+        Err(Failure::Missing(_)) => Ok(None),
+        Err(failure) => Err(failure),
     }
 }
 
@@ -32,22 +34,19 @@ pub fn add(
     boat: u32,
     edition: u32,
     side: u32,
-) {
-    let reading = reading::read_file(rt, path, room);
-    let outcome = reading.outcome;
-    let len = reading.len;
-    if let Outcome::Failed = outcome {
-        return;
-    }
+) -> Result<(), Failure> {
+    let found = read(rt, path, room)?;
+    let len = found.unwrap_or(0);
     let lent = lent_bytes(len, room.len());
     let records = reading::records_in(len);
-    let added = mounts_code::add(&mut room[0..lent], records, boat, edition, side);
-    let answer = added.answer;
-    if let Answer::Refused(number, place) = answer {
-        printing::refusal(rt, number, place);
-        return;
+    let added = mounts_code::add(&mut room[..lent], records, boat, edition, side);
+    if let Err(fault) = added.answer {
+        return printing::refusal(rt, fault);
     }
-    if writing::append(rt, path, is_missing(outcome), len, &room[len..]) {
-        printing::added(rt, added.count);
-    }
+    // A sheet is accepted only where its record has room.
+    let Some(record) = room[len..].first_chunk() else {
+        return Ok(());
+    };
+    writing::append(rt, path, found, record)?;
+    printing::added(rt, added.count)
 }

@@ -16,119 +16,54 @@ mod printing;
 mod reading;
 mod writing;
 
-ghost use Rattle.std.specs.Prelude.{◌≡◌, length};
-
-use arguments::{Command, Number, Signed};
-use mounts::{Shift, Turned};
+use arguments::Command;
+use failing::Failure;
 use std::env::Env;
 use std::rt::Files;
 
-fn ask(rt: &(impl Env + Files + Print + Eprint), path: &str, room: &mut [u8]) {
-    let Number::Is(boat) = arguments::number_at(rt, 3) else {
-        arguments::refuse(rt);
-        return;
-    };
-    let Number::Is(edition) = arguments::number_at(rt, 4) else {
-        arguments::refuse(rt);
-        return;
-    };
-    asking::ask(rt, path, room, boat, edition);
-}
+// The largest file, of 65536 sheets.
+const FILE: usize = 1048576;
 
-fn add(rt: &(impl Env + Files + Print + Eprint), path: &str, room: &mut [u8]) {
-    let Number::Is(boat) = arguments::number_at(rt, 3) else {
-        arguments::refuse(rt);
-        return;
-    };
-    let Number::Is(edition) = arguments::number_at(rt, 4) else {
-        arguments::refuse(rt);
-        return;
-    };
-    let Number::Is(side) = arguments::number_at(rt, 5) else {
-        arguments::refuse(rt);
-        return;
-    };
-    adding::add(rt, path, room, boat, edition, side);
-}
+// The longest path.
+const PATH: usize = 4096;
 
-fn list_boat(rt: &(impl Env + Files + Print + Eprint), path: &str, room: &mut [u8]) {
-    let Number::Is(boat) = arguments::number_at(rt, 3) else {
-        arguments::refuse(rt);
-        return;
-    };
-    listing::list(rt, path, room, false, boat);
-}
-
-fn shift(rt: &(impl Env + Print + Eprint)) {
-    if !arguments::is_last(rt, 4) {
-        arguments::refuse(rt);
-        return;
-    }
-    let Number::Is(side) = arguments::number_at(rt, 2) else {
-        arguments::refuse(rt);
-        return;
-    };
-    let Signed::Is(x) = arguments::signed_at(rt, 3) else {
-        arguments::refuse(rt);
-        return;
-    };
-    let Signed::Is(y) = arguments::signed_at(rt, 4) else {
-        arguments::refuse(rt);
-        return;
-    };
-    match mounts_code::turn(side, Shift { x, y }) {
-        Turned::Vector(vector) => {
-            printing::vector(rt, vector.x, vector.y);
-        }
-        Turned::Refused(number, place) => {
-            printing::refusal(rt, number, place);
-        }
+fn shift(rt: &(impl Env + Print)) -> Result<(), Failure> {
+    let (side, shift) = arguments::shift(rt).ok_or(Failure::Arguments)?;
+    match mounts_code::turn(side, shift) {
+        Ok(vector) => printing::vector(rt, vector),
+        Err(fault) => printing::refusal(rt, fault),
     }
 }
 
-fn on_file(rt: &(impl Env + Files + Print + Eprint), path: &str, room: &mut [u8]) {
-    match arguments::asked_for(rt) {
-        Command::Ask => ask(rt, path, room),
-        Command::Add => add(rt, path, room),
-        Command::List => listing::list(rt, path, room, true, 0),
-        Command::ListBoat => list_boat(rt, path, room),
-        Command::Unknown => arguments::refuse(rt),
+// The room is handed over as an array, and not as a slice, so that no proof counts its zeros.
+fn on_file(
+    rt: &(impl Env + Files + Print + Eprint),
+    path: &str,
+    room: &mut [u8; FILE],
+) -> Result<(), Failure> {
+    match arguments::asked_for(rt).ok_or(Failure::Arguments)? {
+        Command::Ask { boat, edition } => asking::ask(rt, path, room, boat, edition),
+        Command::Add {
+            boat,
+            edition,
+            side,
+        } => adding::add(rt, path, room, boat, edition, side),
+        Command::List { boat } => listing::list(rt, path, room, boat),
     }
 }
 
-fn in_room(rt: &(impl Env + Files + Print + Eprint), path: &str, room: &mut [u8; 1048576]) {
-    on_file(rt, path, room);
-}
-
-// Room for 65536 sheets, the largest file. It is handed over as an array, and not as a slice, so that no proof counts its zeros.
-fn make_room(rt: &(impl Env + Files + Print + Eprint), path: &str) {
-    let mut room = [0u8; 1048576];
-    in_room(rt, path, &mut room);
-}
-
-// Room for any path. A call, so that no proof meets 4096 zeros.
-fn path_room() -> [u8; 4096]
-    ensures { 4096 ≡ length result }
-{
-    [0u8; 4096]
+fn run(rt: &(impl Env + Files + Print + Eprint)) -> Result<(), Failure> {
+    if arguments::is_shift(rt) {
+        return shift(rt);
+    }
+    let mut name = [0u8; PATH];
+    let path = arguments::path(rt, &mut name)?;
+    let mut room = [0u8; FILE];
+    on_file(rt, path, &mut room)
 }
 
 fn main(rt: HostRuntime) {
-    if arguments::is_shift(&rt) {
-        shift(&rt);
-        return;
+    if let Err(failure) = run(&rt) {
+        failing::say(&rt, failure);
     }
-    let mut name = path_room();
-    let Ok(n) = rt.arg(1, &mut name) else {
-        arguments::refuse(&rt);
-        return;
-    };
-    let Ok(path) = str::from_utf8(&name[..n]) else {
-        failing::say(
-            &rt,
-            "the name of the file is not UTF-8, and no other can be opened",
-        );
-        return;
-    };
-    make_room(&rt, path);
 }

@@ -1,56 +1,28 @@
 // A file read whole.
-ghost use Rattle.std.specs.Prelude.{◌≡◌, ◌≤◌, length, take};
+ghost use Rattle.std.specs.Prelude.{◌≤◌, length, IfOk};
 
-use crate::failing;
+use crate::failing::Failure;
 use std::fs;
 use std::io::{Error, ErrorKind, Read};
 use std::rt::Files;
 
-// What reading came to. Of a failure it was said what it is.
-#[derive(Clone, Copy)]
-pub enum Outcome {
-    Whole,
-    Missing(Error),
-    Failed,
-}
-
-// How many bytes were read, none unless the file was read whole.
-#[derive(Clone, Copy)]
-pub struct Reading {
-    pub outcome: Outcome,
-    pub len: usize,
-}
-
-fn say_unreadable(rt: &impl Eprint, why: &Error) {
-    failing::say_why(rt, "the file cannot be read", why);
-}
-
-// Whether the file ends where reading stopped, with the room full or not. If it does not, it is said why. That the input ended and that a
-// read failed are told apart here, by one read more.
-fn is_at_end(rt: &impl Eprint, file: &mut impl Read, is_full: bool) -> bool {
-    let mut byte = [0u8; 1];
-    match file.read(&mut byte) {
-        Ok(0) => return true,
-        Ok(_) => {
-            if is_full {
-                failing::say(
-                    rt,
-                    "the file is longer than 1048576 bytes, the most that is taken",
-                );
-            } else {
-                failing::say(rt, "the file cannot be read to its end");
-            }
-        }
-        Err(e) => say_unreadable(rt, &e),
+// Whether the file ends where reading stopped, with the room full or not. That the input ended and that a read failed are told apart
+// here, by one read more.
+fn check_end(file: &mut impl Read, is_full: bool) -> Result<(), Failure> {
+    match file.read(&mut [0u8; 1]) {
+        Ok(0) => Ok(()),
+        Ok(_) if is_full => Err(Failure::TooLong),
+        Ok(_) => Err(Failure::NoEnd),
+        Err(e) => Err(Failure::Unreadable(e)),
     }
-    false
 }
 
 // Reads until the room is full, the file ends or a read fails, and answers how many bytes it read.
 fn read_full(file: &mut impl Read, room: &mut [u8]) -> usize
-    ensures { (result ≤ length room.new) × (result ≡ length (take result room.new)) }
+    ensures { result ≤ length room.new }
 {
     let mut done = 0;
+    // A loop by hand: a step is as long as what one read gives.
     while done < room.len() {
         let got = file.read(&mut room[done..]).unwrap_or(0);
         if got == 0 {
@@ -61,65 +33,26 @@ fn read_full(file: &mut impl Read, room: &mut [u8]) -> usize
     done
 }
 
-fn read_open(rt: &impl Eprint, file: &mut impl Read, room: &mut [u8]) -> Reading
-    ensures { (result.len ≤ length room.new) × (result.len ≡ length (take result.len room.new)) }
-{
-    let len = read_full(file, room);
-    if is_at_end(rt, file, len == room.len()) {
-        return Reading {
-            outcome: Outcome::Whole,
-            len,
-        };
+fn unopened(why: Error) -> Failure {
+    if why.kind() == ErrorKind::NotFound {
+        return Failure::Missing(why);
     }
-    Reading {
-        outcome: Outcome::Failed,
-        len: 0,
-    }
+    Failure::Unreadable(why)
 }
 
-// Reads the file to the start of the room. A file that is missing is no failure.
-pub fn read_file(rt: &(impl Files + Eprint), path: &str, room: &mut [u8]) -> Reading
-    ensures { (result.len ≤ length room.new) × (result.len ≡ length (take result.len room.new)) }
+// Reads the file to the start of the room, and answers how many bytes it has. The room is lent to each command beside the path: its bytes are on
+// the stack of `run`, and a struct of both would be made and taken apart once.
+pub fn read(rt: &impl Files, path: &str, room: &mut [u8]) -> Result<usize, Failure>
+    ensures { IfOk result (λ len. len ≤ length room.new) }
 {
-    match fs::open(rt, path) {
-        Ok(mut file) => read_open(rt, &mut file, room),
-        Err(e) => {
-            if e.kind() == ErrorKind::NotFound {
-                return Reading {
-                    outcome: Outcome::Missing(e),
-                    len: 0,
-                };
-            }
-            say_unreadable(rt, &e);
-            Reading {
-                outcome: Outcome::Failed,
-                len: 0,
-            }
-        }
-    }
-}
-
-// The same where a file that is missing is a failure.
-pub fn read_existing(rt: &(impl Files + Eprint), path: &str, room: &mut [u8]) -> Reading
-    ensures { (result.len ≤ length room.new) × (result.len ≡ length (take result.len room.new)) }
-{
-    let reading = read_file(rt, path, room);
-    if let Outcome::Missing(e) = reading.outcome {
-        say_unreadable(rt, &e);
-        return Reading {
-            outcome: Outcome::Failed,
-            len: 0,
-        };
-    }
-    reading
+    let mut file = fs::open(rt, path).map_err(unopened)?;
+    let len = read_full(&mut file, room);
+    check_end(&mut file, len == room.len())?;
+    Ok(len)
 }
 
 // How many records so many bytes are taken for. Where bytes stand behind the last whole one it is one more, which the bytes cannot
 // hold, so that they are refused.
 pub fn records_in(len: usize) -> u64 {
-    let whole = (len / 16) as u64;
-    if len % 16 == 0 {
-        return whole;
-    }
-    whole + 1
+    len.div_ceil(16) as u64
 }

@@ -11,16 +11,13 @@ use lib.ListN.{length, take, drop}
 use lib.Seq.{sets, sets-eq, drop-drop}
 use Rattle.mounts.proofs.SheetLaws.{record_length_lem}
 use Rattle.mounts.proofs.StoredLaws.{bad_place}
-use Rattle.answers.specs.Answers.{number_of, place_of, rule, unless}
-use Rattle.answers.specs.declared.Answer.{Answer}
-use Rattle.answers.specs.declared.Answer.TheVariants.{Accepted, Refused}
+use Rattle.answers.specs.Answers.{number_of, place_of, rule, unless, Accepted, refused, Answer}
+use Rattle.std.specs.Prelude.{Err, Some}
 use Rattle.answers.proofs.Judging.{no_accepted, unless_accepted}
 use Rattle.mounts.specs.Claims.{AddRefusal}
-use Rattle.mounts.specs.Editions.{newest, next_edition, edition_of, highest_edition}
+use Rattle.mounts.specs.Editions.{newest, next_edition, edition_of, highest_edition, Newest}
 use Rattle.mounts.specs.Mounts.{stored_fault, first_bad, add_answer, added, bytes_after}
 use Rattle.mounts.specs.Sheets.{sheet_record, sheets_in, capacity}
-use Rattle.mounts.specs.declared.Newest.{Newest}
-use Rattle.mounts.specs.declared.Newest.TheVariants.{At}
 use Rattle.mounts.specs.declared.Sheet.{Sheet}
 
 -- Lent bytes that hold so many records.
@@ -40,7 +37,7 @@ pub stored_sound : (bytes : List ℕ) (count : ℕ) → stored_fault bytes count
 unfolding stored_fault
 stored_sound bytes count e = by (ltb (capacity bytes) count) refl e
   where
-    by : (b : Bool) → ltb (capacity bytes) count ≡ b → cond b (Refused 20 (capacity bytes)) (first_bad count bytes) ≡ Accepted → Sound bytes count
+    by : (b : Bool) → ltb (capacity bytes) count ≡ b → cond b (refused 20 (capacity bytes)) (first_bad count bytes) ≡ Accepted → Sound bytes count
     by true t r = absurd (no_accepted r)
     by false t r = record { held = ltb-false (capacity bytes) count t; good = r }
 
@@ -75,21 +72,21 @@ addable_added bytes count s a =
 
 -- Each refusal in its turn.
 module _ (bytes : List ℕ) (count : ℕ) (s : Sheet) where
-  pub first_refused : (n p : ℕ) → stored_fault bytes count ≡ Refused n p → add_answer bytes count s ≡ Refused n p
+  pub first_refused : (n p : ℕ) → stored_fault bytes count ≡ refused n p → add_answer bytes count s ≡ refused n p
   unfolding add_answer
   first_refused n p e = simp e
 
-  pub side_refused : stored_fault bytes count ≡ Accepted → 1 < s.side → add_answer bytes count s ≡ Refused 22 0
+  pub side_refused : stored_fault bytes count ≡ Accepted → 1 < s.side → add_answer bytes count s ≡ refused 22 0
   unfolding add_answer
   side_refused e h = simp (e, lt-leb s.side 1 h)
 
   pub edition_refused : stored_fault bytes count ≡ Accepted → s.side ≤ 1 → (s.edition ≡ next_edition s.boat (sheets_in count bytes) → ⊥)
-      → add_answer bytes count s ≡ Refused 21 0
+      → add_answer bytes count s ≡ refused 21 0
   unfolding add_answer
   edition_refused e h other = simp (e, le-leb s.side 1 h, ne_eqb s.edition (next_edition s.boat (sheets_in count bytes)) other)
 
   pub room_refused : stored_fault bytes count ≡ Accepted → s.side ≤ 1 → s.edition ≡ next_edition s.boat (sheets_in count bytes) → capacity bytes ≤ count
-      → add_answer bytes count s ≡ Refused 14 0
+      → add_answer bytes count s ≡ refused 14 0
   unfolding add_answer
   room_refused e h is full = simp (e, le-leb s.side 1 h, eq-eqb s.edition (next_edition s.boat (sheets_in count bytes)) is, le-ltb count (capacity bytes) full)
 
@@ -100,7 +97,7 @@ unfolding next_edition
 next_after boat bytes count m next em en = en ∙ ap (λ (x : Newest). edition_of x + 1) em
 
 -- What is answered and left: where a rule is broken, and where the record was put behind the last.
-pub add_refused : (bytes : List ℕ) (count : ℕ) (s : Sheet) (a : Answer) (n p : ℕ) → a ≡ add_answer bytes count s → a ≡ Refused n p
+pub add_refused : (bytes : List ℕ) (count : ℕ) (s : Sheet) (a : Answer) (n p : ℕ) → a ≡ add_answer bytes count s → a ≡ refused n p
     → (record { answer = a; count = count } ≡ added bytes count s) × (bytes ≡ bytes_after bytes count s)
 unfolding added bytes_after
 add_refused bytes count s a n p e r = simp (← e, r) (refl, refl)
@@ -121,32 +118,32 @@ add_accepted bytes count s part e w =
 
 -- "none follows 4294967295": behind the highest edition every 32-bit one is refused.
 pub none_follows : (bytes : List ℕ) (count : ℕ) (s t : Sheet) → stored_fault bytes count ≡ Accepted → s.side ≤ 1 → s.edition < 2 ^ 32
-    → newest s.boat highest_edition (sheets_in count bytes) ≡ At t → t.edition ≡ highest_edition → add_answer bytes count s ≡ Refused 21 0
+    → newest s.boat highest_edition (sheets_in count bytes) ≡ Some t → t.edition ≡ highest_edition → add_answer bytes count s ≡ refused 21 0
 none_follows bytes count s t e h fits n highest =
-    let next = next_after s.boat bytes count (At t) (t.edition + 1) (sym n) refl in
+    let next = next_after s.boat bytes count (Some t) (t.edition + 1) (sym n) refl in
     edition_refused bytes count s e h (λ same. absurd (omega (arith, same, next)))
 
 -- The numbers and places of refusals.
-pub fault_place : (bytes : List ℕ) (count n p : ℕ) → stored_fault bytes count ≡ Refused n p → (n ≡ 20) × (p < count)
+pub fault_place : (bytes : List ℕ) (count n p : ℕ) → stored_fault bytes count ≡ refused n p → (n ≡ 20) × (p < count)
 unfolding stored_fault
 fault_place bytes count n p e = by (ltb (capacity bytes) count) refl e
   where
-    by : (b : Bool) → ltb (capacity bytes) count ≡ b → cond b (Refused 20 (capacity bytes)) (first_bad count bytes) ≡ Refused n p → (n ≡ 20) × (p < count)
+    by : (b : Bool) → ltb (capacity bytes) count ≡ b → cond b (refused 20 (capacity bytes)) (first_bad count bytes) ≡ refused n p → (n ≡ 20) × (p < count)
     by true t x = (sym (ap number_of x), subst (λ (i : ℕ). i < count) (ap place_of x) (ltb-true (capacity bytes) count t))
     by false t x = let b = bad_place bytes count n p x in (b.0, b.1.counted)
 
-pub add_numbers : (bytes : List ℕ) (count : ℕ) (s : Sheet) (n p : ℕ) → add_answer bytes count s ≡ Refused n p → AddRefusal count n p
+pub add_numbers : (bytes : List ℕ) (count : ℕ) (s : Sheet) (n p : ℕ) → add_answer bytes count s ≡ refused n p → AddRefusal count n p
 unfolding add_answer
 add_numbers bytes count s n p e =
     by (stored_fault bytes count) (leb s.side 1) (eqb s.edition (next_edition s.boat (sheets_in count bytes))) (ltb count (capacity bytes)) refl e
   where
-    at : (m : ℕ) → ◌≡◌ {A = Answer} (Refused m 0) (Refused n p) → (n ≡ m) × (p ≡ 0)
+    at : (m : ℕ) → ◌≡◌ {A = Answer} (refused m 0) (refused n p) → (n ≡ m) × (p ≡ 0)
     at m x = (sym (ap number_of x), sym (ap place_of x))
 
     by : (f : Answer) (side edition room : Bool) → stored_fault bytes count ≡ f
-        → unless (unless (unless f (rule 22 0 side)) (rule 21 0 edition)) (rule 14 0 room) ≡ Refused n p → AddRefusal count n p
-    by (Refused m q) side edition room f x =
-        inl (let o = fault_place bytes count m q f in (sym (ap number_of x) ∙ o.0, subst (λ (i : ℕ). i < count) (ap place_of x) o.1))
+        → unless (unless (unless f (rule 22 0 side)) (rule 21 0 edition)) (rule 14 0 room) ≡ refused n p → AddRefusal count n p
+    by (Err g) side edition room f x =
+        inl (let o = fault_place bytes count g.number g.place f in (sym (ap number_of x) ∙ o.0, subst (λ (i : ℕ). i < count) (ap place_of x) o.1))
     by Accepted false edition room f x = let y = at 22 x in inr (inl y.0, y.1)
     by Accepted true false room f x = let y = at 21 x in inr (inr (inl y.0), y.1)
     by Accepted true true false f x = let y = at 14 x in inr (inr (inr y.0), y.1)

@@ -8,15 +8,14 @@ use borrow.Author.Tests.{le-leb, eq-eqb}
 use lib.Dec.{eqb, leb}
 use lib.ListN.{length, take, drop}
 use lib.Seq.{length-sets, length-take-le, take_at, drop_at, drop-drop}
-use Rattle.answers.specs.declared.Answer.TheVariants.{Accepted, Refused}
+use Rattle.std.specs.Prelude.{Ok, Some}
+use Rattle.answers.specs.Answers.{Accepted, refused}
 use Rattle.lists.proofs.Booleans.{both_true}
 use Rattle.mounts.specs.Claims.{AddLeaves}
 use Rattle.mounts.specs.Editions.{newest, next_edition}
 use Rattle.mounts.specs.Mounts.{good_after, good_at, stored_fault, asked, add_answer, added, bytes_after}
 use Rattle.mounts.specs.Sheets.{sheet_record, sheet_in, stored, sheets_in}
 use Rattle.mounts.specs.declared.Added.{Added}
-use Rattle.mounts.specs.declared.Asked.TheVariants.{Found}
-use Rattle.mounts.specs.declared.Newest.TheVariants.{At}
 use Rattle.mounts.specs.declared.Sheet.{Sheet}
 use Rattle.mounts.proofs.AddLaws.{add_addable, add_refused, add_accepted, fits_exactly, sound_stored}
 use Rattle.mounts.proofs.Agreeing.{Agree, same_sheets, same_judged}
@@ -26,7 +25,7 @@ use Rattle.mounts.proofs.SheetLaws.{record_length_lem, sheet_back, filler_zero}
 use Rattle.mounts.proofs.StoredLaws.{next_judged}
 
 -- A refusal leaves the number and every byte as they were.
-pub refused_leaves : (bytes : List ℕ) (count : ℕ) (s : Sheet) (n p : ℕ) → add_answer bytes count s ≡ Refused n p
+pub refused_leaves : (bytes : List ℕ) (count : ℕ) (s : Sheet) (n p : ℕ) → add_answer bytes count s ≡ refused n p
     → (bytes_after bytes count s ≡ bytes) × ((added bytes count s).count ≡ count)
 refused_leaves bytes count s n p e =
     let same = add_refused bytes count s (add_answer bytes count s) n p refl e in
@@ -114,8 +113,8 @@ module _ (bytes : List ℕ) (count : ℕ) (s : Sheet) (e : add_answer bytes coun
       sound_stored after (suc count) (record { held = subst (λ (i : ℕ). suc count ≤ i / 16) (sym n) r; good = good })
 
   -- Asking for its edition or a later one gives what was added.
-  pub added_found : s.boat < 2 ^ 32 → s.edition < 2 ^ 32 → (edition : ℕ) → s.edition ≤ edition → asked (bytes_after bytes count s) (suc count) s.boat edition ≡ Found s
+  pub added_found : s.boat < 2 ^ 32 → s.edition < 2 ^ 32 → (edition : ℕ) → s.edition ≤ edition → asked (bytes_after bytes count s) (suc count) s.boat edition ≡ Ok s
   added_found hb he edition l =
       let test = both_true (eq-eqb s.boat s.boat refl) (le-leb s.edition edition l) in
       found_asked after (suc count) s.boat edition s (sound_after hb he)
-      (ap (newest s.boat edition) (sheets_after hb he) ∙ newest_next s.boat edition (sheets_in count bytes) s ∙ ap (λ (b : Bool). cond b (At s) (newest s.boat edition (sheets_in count bytes))) test)
+      (ap (newest s.boat edition) (sheets_after hb he) ∙ newest_next s.boat edition (sheets_in count bytes) s ∙ ap (λ (b : Bool). cond b (Some s) (newest s.boat edition (sheets_in count bytes))) test)

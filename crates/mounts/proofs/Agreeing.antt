@@ -6,8 +6,7 @@ use Prim.Native.Nat.{ℕ, zero, suc, ◌+◌, ◌*◌, ◌≤◌, ◌<◌}
 use native.Mathlib.Omega.{arith}
 use lib.ListN.{length, take, drop, length-drop, take-append-drop}
 use lib.Seq.{length-take-le, take-append-le, drop-append-le}
-use Rattle.answers.specs.Answers.{rule, unless}
-use Rattle.answers.specs.declared.Answer.{Answer}
+use Rattle.answers.specs.Answers.{rule, unless, Answer}
 use Rattle.mounts.specs.Mounts.{good_after, good_at, first_bad}
 use Rattle.mounts.specs.Sheets.{sheet_in, stored, sheets_in}
 use Rattle.mounts.specs.declared.Sheet.{Sheet}

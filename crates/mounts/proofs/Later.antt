@@ -8,16 +8,14 @@ use borrow.Author.Tests.{eqb-true, lt-leb}
 use lib.Dec.{eqb, leb}
 use lib.ListN.{length, take, length-append}
 use lib.Seq.{length-take-le, take_at}
-use Rattle.answers.specs.declared.Answer.{Answer}
-use Rattle.answers.specs.declared.Answer.TheVariants.{Accepted, Refused}
+use Rattle.std.specs.Prelude.{Ok, Err, Some}
+use Rattle.answers.specs.Answers.{Accepted, Answer}
 use Rattle.lists.specs.Calls.{Along}
 use Rattle.lists.proofs.Stepping.{along}
 use Rattle.mounts.specs.Claims.{Book, Call, lent_with, AddStep, HasEdition}
 use Rattle.mounts.specs.Editions.{newest, edition_of, next_edition}
 use Rattle.mounts.specs.Mounts.{asked, add_answer, bytes_after}
 use Rattle.mounts.specs.Sheets.{sheets_in}
-use Rattle.mounts.specs.declared.Asked.TheVariants.{Found}
-use Rattle.mounts.specs.declared.Newest.TheVariants.{At}
 use Rattle.mounts.specs.declared.Sheet.{Sheet}
 use Rattle.mounts.proofs.AddLaws.{stored_sound, sound_stored, add_addable, fits_exactly}
 use Rattle.mounts.proofs.Adding.{refused_leaves, added_count, sheets_after, sound_after}
@@ -28,8 +26,8 @@ use Rattle.mounts.proofs.Rising.{kept_rises, newest_below}
 
 -- A sheet that was added later is above an edition that its boat already has.
 later_above : (bytes : List ℕ) (count : ℕ) (s t : Sheet) (boat e : ℕ) → e < 2 ^ 32 → add_answer bytes count s ≡ Accepted
-    → newest boat e (sheets_in count bytes) ≡ At t → t.edition ≡ e
-    → newest boat e (sheets_in count bytes ++ s ∷ []) ≡ At t
+    → newest boat e (sheets_in count bytes) ≡ Some t → t.edition ≡ e
+    → newest boat e (sheets_in count bytes ++ s ∷ []) ≡ Some t
 later_above bytes count s t boat e h accepted n own = newest_next boat e (sheets_in count bytes) s ∙ by (eqb s.boat boat) refl ∙ n
   where
     above : s.boat ≡ boat → leb s.edition e ≡ false
@@ -41,8 +39,8 @@ later_above bytes count s t boat e h accepted n own = newest_next boat e (sheets
         lt-leb s.edition e (omega (arith, below, next, is, own))
 
     by : (b : Bool) → eqb s.boat boat ≡ b
-        → cond (b && leb s.edition e) (At s) (newest boat e (sheets_in count bytes)) ≡ newest boat e (sheets_in count bytes)
-    by true x = ap (λ (c : Bool). cond c (At s) (newest boat e (sheets_in count bytes))) (above (eqb-true s.boat boat x))
+        → cond (b && leb s.edition e) (Some s) (newest boat e (sheets_in count bytes)) ≡ newest boat e (sheets_in count bytes)
+    by true x = ap (λ (c : Bool). cond c (Some s) (newest boat e (sheets_in count bytes))) (above (eqb-true s.boat boat x))
     by false x = refl
 
 -- Other bytes behind the records change nothing.
@@ -52,7 +50,7 @@ lent_agree b beyond l =
     let all = length-append (take (16 * b.count) b.bytes) beyond in
     record { in_first = l; in_second = omega arith; same = sym (take_at (take (16 * b.count) b.bytes) beyond (16 * b.count) front) }
 
-agree_has : (xs ys : List ℕ) (count boat e : ℕ) (t : Sheet) → Agree xs ys count → asked xs count boat e ≡ Found t → asked ys count boat e ≡ Found t
+agree_has : (xs ys : List ℕ) (count boat e : ℕ) (t : Sheet) → Agree xs ys count → asked xs count boat e ≡ Ok t → asked ys count boat e ≡ Ok t
 agree_has xs ys count boat e t a f =
     let g = asked_found xs count boat e t f in
     let s = stored_sound xs count g.0 in
@@ -69,15 +67,15 @@ module _ (boat e : ℕ) (t : Sheet) (h : e < 2 ^ 32) where
       lent : List ℕ
       lent = lent_with b c.beyond
 
-      first : asked lent b.count boat e ≡ Found t
+      first : asked lent b.count boat e ≡ Ok t
       first =
           let g = asked_found b.bytes b.count boat e t has.found in
           let held = (stored_sound b.bytes b.count g.0).held in
           agree_has b.bytes lent b.count boat e t (lent_agree b c.beyond (fits_exactly b.bytes b.count held)) has.found
 
       by : (a : Answer) → add_answer lent b.count c.new ≡ a → HasEdition r boat e t
-      by (Refused n p) x =
-          let same = refused_leaves lent b.count c.new n p x in
+      by (Err f) x =
+          let same = refused_leaves lent b.count c.new f.number f.place x in
           record {
             found =
                 ap₂ (λ (bytes : List ℕ) (count : ℕ). asked bytes count boat e) (s.bytes ∙ same.0) (s.count ∙ same.1) ∙ first;

@@ -7,19 +7,17 @@ use native.Mathlib.Omega.{arith}
 use borrow.Author.Tests.{leb-true, leb-false, eqb-true, le-leb}
 use lib.Dec.{eqb, leb}
 use lib.ListN.{length}
-use Rattle.answers.specs.Answers.{rule}
-use Rattle.answers.specs.declared.Answer.TheVariants.{Accepted}
+use Rattle.answers.specs.Answers.{rule, Accepted}
+use Rattle.std.specs.Prelude.{Some, None}
 use Rattle.lists.proofs.Booleans.{and_right}
 use Rattle.mounts.specs.Claims.{Rising}
-use Rattle.mounts.specs.Editions.{of_boat, not_above, latest, newest, edition_of, next_edition, highest_edition}
+use Rattle.mounts.specs.Editions.{of_boat, not_above, latest, newest, edition_of, next_edition, highest_edition, Newest}
 use Rattle.mounts.specs.Mounts.{good_at, first_bad, stored_fault}
 use Rattle.fields.specs.Bytes.{elements, Bytes}
 use Rattle.fields.specs.Parts.{value_at}
 use Rattle.fields.proofs.PartLaws.{part_bytes, number_lt}
 use Rattle.mounts.specs.Layout.{sheet_filler_part}
 use Rattle.mounts.specs.Sheets.{stored, sheet_at, sheets_in}
-use Rattle.mounts.specs.declared.Newest.{Newest}
-use Rattle.mounts.specs.declared.Newest.TheVariants.{At, Nothing}
 use Rattle.mounts.specs.declared.Sheet.{Sheet}
 use Rattle.answers.proofs.Judging.{unless_accepted}
 use Rattle.mounts.proofs.AddLaws.{stored_sound}
@@ -33,7 +31,7 @@ rising_next n (t ∷ ss) s r e = (r.0, rising_next (suc n) ss s r.1 (omega arith
 -- The last of them, and the last of those not above an edition.
 last_rising : (n : ℕ) (ss : List Sheet) (m : Newest) → Rising n ss → edition_of m + 1 ≡ n → edition_of (latest m ss) + 1 ≡ n + length ss
 last_rising n [] m r e = omega arith
-last_rising n (s ∷ ss) m r e = let first = r.0 in let rest = last_rising (suc n) ss (At s) r.1 (omega arith) in omega arith
+last_rising n (s ∷ ss) m r e = let first = r.0 in let rest = last_rising (suc n) ss (Some s) r.1 (omega arith) in omega arith
 
 last_most : (n e : ℕ) (ss : List Sheet) (m : Newest) → Rising n ss → edition_of m + 1 ≤ n → edition_of (latest m (not_above e ss)) + 1 ≤ n + length ss
 last_most n e [] m r h = omega arith
@@ -41,7 +39,7 @@ last_most n e (s ∷ ss) m r h = by (λ x l. last_most (suc n) e ss x r.1 l) (le
   where
     by : ((x : Newest) → edition_of x + 1 ≤ suc n → edition_of (latest x (not_above e ss)) + 1 ≤ suc n + length ss)
         → (b : Bool) → edition_of (latest m (cond b (s ∷ not_above e ss) (not_above e ss))) + 1 ≤ n + suc (length ss)
-    by rest true = let first = r.0 in let more = rest (At s) (omega arith) in omega arith
+    by rest true = let first = r.0 in let more = rest (Some s) (omega arith) in omega arith
     by rest false = let more = rest m (omega arith) in omega arith
 
 -- Those not above a lower edition are among those not above a higher one.
@@ -72,14 +70,14 @@ kept_both boat ss ts =
 -- What follows the newest is one more than how many there are.
 pub next_rising : (boat : ℕ) (sheets : List Sheet) → Rising 1 (kept boat sheets) → next_edition boat sheets ≡ 1 + length (kept boat sheets)
 unfolding next_edition newest
-next_rising boat sheets r = last_rising 1 (kept boat sheets) Nothing r refl
+next_rising boat sheets r = last_rising 1 (kept boat sheets) None r refl
 
 -- A boat's newest sheet not above an edition is below the next one.
 pub newest_below : (boat e : ℕ) (sheets : List Sheet) → e ≤ highest_edition → Rising 1 (kept boat sheets) → edition_of (newest boat e sheets) < next_edition boat sheets
 unfolding newest
 newest_below boat e sheets h r =
-    let some = last_most 1 e (kept boat sheets) Nothing r (omega arith) in
-    let same = ap (λ (z : List Sheet). edition_of (latest Nothing z)) (twice_above e highest_edition h (of_boat boat sheets)) in
+    let some = last_most 1 e (kept boat sheets) None r (omega arith) in
+    let same = ap (λ (z : List Sheet). edition_of (latest None z)) (twice_above e highest_edition h (of_boat boat sheets)) in
     let next = next_rising boat sheets r in
     omega arith
 

@@ -1,11 +1,10 @@
 -- What is claimed of asking and adding. What is quoted is document 02 (R-9).
 -- Proved: `bad_place`, `first_bad_given` (proofs/StoredLaws.antt), `editions_rise` (proofs/Rising.antt), `found_newest`, `none_found`, `found_none`, `ask_numbers`
 -- (proofs/Finding.antt), `add_numbers` (proofs/AddLaws.antt), `add_leaves`, `added_found` (proofs/Adding.antt) and `later_adding` (proofs/Later.antt).
-use Rattle.std.specs.Prelude.{ℕ, suc, ◌*◌, ◌^◌, ◌≤◌, ◌<◌, true, false, List, [], ◌∷◌, ◌++◌, ◌⊎◌, ◌≡◌, length, take, drop}
+use Rattle.std.specs.Prelude.{ℕ, suc, ◌*◌, ◌^◌, ◌≤◌, ◌<◌, true, false, List, [], ◌∷◌, ◌++◌, ◌⊎◌, ◌≡◌, length, take, drop, Ok}
 use Rattle.mounts.specs.Layout.{sheet_length}
 use Rattle.mounts.specs.Mounts.{good_at, asked, added, bytes_after}
 use Rattle.mounts.specs.Sheets.{sheet_record, sheet_at}
-use Rattle.mounts.specs.declared.Asked.TheVariants.{Found}
 use Rattle.mounts.specs.declared.Sheet.{Sheet}
 
 -- Record k is bad, and none before it is.
@@ -63,7 +62,7 @@ pub record AddStep (b : Book) (c : Call) (r : Book) : Type 0 where
 
 -- A boat has an edition: asking for it gives that very edition's sheet.
 pub record HasEdition (b : Book) (boat edition : ℕ) (s : Sheet) : Type 0 where
-  pub found : asked b.bytes b.count boat edition ≡ Found s
+  pub found : asked b.bytes b.count boat edition ≡ Ok s
   pub its_own : s.edition ≡ edition
 
 -- The numbers and places of refusals: 20 at a record that was counted, all others at 0.

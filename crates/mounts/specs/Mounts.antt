@@ -1,21 +1,20 @@
 -- Asking for a sheet and adding one, in lent bytes. What is quoted is document 02 (R-9).
 -- To be believed: what asking and adding answer, and what the bytes hold afterwards.
-use Rattle.std.specs.Prelude.{ℕ, zero, suc, ◌*◌, Bool, cond, ◌&&◌, eqb, leb, ltb}
+use Rattle.std.specs.Prelude.{ℕ, zero, suc, ◌*◌, Bool, cond, ◌&&◌, eqb, leb, ltb, Ok, Err, Some, None, Result}
+use Rattle.answers.specs.declared.Fault.{Fault}
 use mathlib.Core.List.{List, [], ◌∷◌, foldl}
 use Rattle.std.proofs.lemmas.List.Edits.{sets}
-use Rattle.answers.specs.Answers.{Rule, rule, unless}
-use Rattle.answers.specs.declared.Answer.{Answer}
-use Rattle.answers.specs.declared.Answer.TheVariants as answer
+use Rattle.answers.specs.Answers.{Rule, rule, unless, Accepted, refused, fault_at, Answer}
 use Rattle.fields.specs.Parts.{value_at}
-use Rattle.mounts.specs.Editions.{newest, next_edition}
+use Rattle.mounts.specs.Editions.{newest, next_edition, Newest}
 use Rattle.mounts.specs.Layout.{sheet_length, sheet_filler_part, port}
 use Rattle.mounts.specs.Sheets.{sheet_record, sheet_in, stored, sheets_in, capacity}
 use Rattle.mounts.specs.declared.Added.{Added}
-use Rattle.mounts.specs.declared.Asked.{Asked}
-use Rattle.mounts.specs.declared.Asked.TheVariants.{Found, Refused}
-use Rattle.mounts.specs.declared.Newest.{Newest}
-use Rattle.mounts.specs.declared.Newest.TheVariants.{At, Nothing}
 use Rattle.mounts.specs.declared.Sheet.{Sheet}
+
+-- The answer to asking: a sheet, or why there is none.
+abbrev pub Asked : Type 0
+Asked = Result Sheet Fault
 
 -- A record behind these sheets is good: "(side above 1, non-zero filler, or not its boat's next edition)" makes it bad.
 abbrev pub good_after : List Sheet → List ℕ → Bool
@@ -28,21 +27,21 @@ good_at bytes k = good_after (sheets_in k bytes) (stored bytes k)
 
 -- "the first bad stored record .. gives 20 with its number", of the first so many.
 abbrev pub first_bad : ℕ → List ℕ → Answer
-first_bad zero bytes = answer.Accepted
+first_bad zero bytes = Accepted
 first_bad (suc k) bytes = unless (first_bad k bytes) (rule 20 k (good_at bytes k))
 
 -- "A number of records that the bytes can't hold gives 20 with the number they can; then the first bad stored record".
 unfoldable pub stored_fault : List ℕ → ℕ → Answer
-stored_fault bytes count = cond (ltb (capacity bytes) count) (answer.Refused 20 (capacity bytes)) (first_bad count bytes)
+stored_fault bytes count = cond (ltb (capacity bytes) count) (refused 20 (capacity bytes)) (first_bad count bytes)
 
 -- "Asking for boat and edition gives that boat's newest sheet not above it, or 19 if none."
 abbrev pub found_or_none : Newest → Asked
-found_or_none (At s) = Found s
-found_or_none Nothing = Refused 19 0
+found_or_none (Some s) = Ok s
+found_or_none None = Err (fault_at 19 0)
 
 abbrev pub unless_fault : Answer → Asked → Asked
-unless_fault answer.Accepted a = a
-unless_fault (answer.Refused n p) a = Refused n p
+unless_fault Accepted a = a
+unless_fault (Err f) a = Err f
 
 unfoldable pub asked : List ℕ → ℕ → ℕ → ℕ → Asked
 asked bytes count boat edition = unless_fault (stored_fault bytes count) (found_or_none (newest boat edition (sheets_in count bytes)))
@@ -61,12 +60,12 @@ add_answer bytes count s = foldl unless (stored_fault bytes count) (add_rules by
 
 -- "adding writes behind the last", one record more; a refusal leaves the number and every byte as they were.
 abbrev pub added_count : Answer → ℕ → ℕ
-added_count answer.Accepted count = suc count
-added_count (answer.Refused n p) count = count
+added_count Accepted count = suc count
+added_count (Err f) count = count
 
 abbrev pub added_bytes : Answer → List ℕ → ℕ → Sheet → List ℕ
-added_bytes answer.Accepted bytes count s = sets bytes (sheet_length * count) (sheet_record s)
-added_bytes (answer.Refused n p) bytes count s = bytes
+added_bytes Accepted bytes count s = sets bytes (sheet_length * count) (sheet_record s)
+added_bytes (Err f) bytes count s = bytes
 
 unfoldable pub added : List ℕ → ℕ → Sheet → Added
 added bytes count s = record { answer = add_answer bytes count s; count = added_count (add_answer bytes count s) count }

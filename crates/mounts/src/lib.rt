@@ -1,9 +1,10 @@
 // Mount sheets by edition: which side of a boat a unit is mounted on, and so which sign a measured shift gets.
 #![tactic(auto)]
 
-use answers::Answer;
+use answers::Fault;
 
 // A mount sheet: the unit's side on a boat (0 starboard, 1 port), by the boat's edition.
+// A byte and no enum: what lent memory holds may be no side.
 #[derive(Clone, Copy)]
 pub struct Sheet {
     pub boat: u32,
@@ -11,24 +12,10 @@ pub struct Sheet {
     pub side: u8,
 }
 
-// The newest of some sheets, if there is one.
-#[derive(Clone, Copy)]
-pub enum Newest {
-    At(Sheet),
-    Nothing,
-}
-
-// The answer to asking: a sheet, or refused with a number and a place.
-#[derive(Clone, Copy)]
-pub enum Asked {
-    Found(Sheet),
-    Refused(u8, u64),
-}
-
-// The answer to adding, and how many sheets there are then.
+// The answer to adding, and how many sheets there are then. No Result of a count: it stands beside a refusal too.
 #[derive(Clone, Copy)]
 pub struct Added {
-    pub answer: Answer,
+    pub answer: Result<(), Fault>,
     pub count: u64,
 }
 
@@ -37,11 +24,4 @@ pub struct Added {
 pub struct Shift {
     pub x: i16,
     pub y: i16,
-}
-
-// The vector of a measured shift, or refused with a number and a place.
-#[derive(Clone, Copy)]
-pub enum Turned {
-    Vector(Shift),
-    Refused(u8, u64),
 }

@@ -1,2 +1,3 @@
 -- for this crate alone
+mod Judged
 mod Remainders

@@ -9,11 +9,10 @@ use lib.Dec.{eqb, leb}
 use lib.ListN.{length, get_or, set, replicate, length-set, get_or-replicate}
 use lib.Seq.{get_or-set_same, get_or-set_other}
 use Rattle.fields.specs.Parts.{value_at}
-use Rattle.mounts.specs.Editions.{newest, edition_of, next_edition}
+use Rattle.mounts.specs.Editions.{newest, edition_of, next_edition, Newest}
 use Rattle.mounts.specs.Layout.{sheet_filler_part}
 use Rattle.mounts.specs.Mounts.{good_at}
 use Rattle.mounts.specs.Sheets.{stored, sheet_at, sheets_in}
-use Rattle.mounts.specs.declared.Newest.{Newest}
 use Rattle.mounts.specs.declared.Sheet.{Sheet}
 use Rattle.mounts.proofs.EditionLaws.{none_between}
 

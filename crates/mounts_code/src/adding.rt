@@ -4,29 +4,33 @@ ghost use Rattle.mounts.specs.Mounts.{add_answer, added, bytes_after};
 ghost use Rattle.mounts.specs.Sheets.{sheet};
 
 use crate::{asking, records};
-use answers::Answer;
+use answers::Fault;
 use mounts::{Added, Sheet};
 
 // The rule that adding a sheet breaks first.
-fn add_answer(sheets: &[u8], count: u64, boat: u32, edition: u32, side: u32) -> Answer
+fn add_answer(sheets: &[u8], count: u64, boat: u32, edition: u32, side: u32) -> Result<(), Fault>
     ensures { result ≡ add_answer sheets.now count (sheet boat edition side) }
 {
-    let judged = asking::judge(sheets, count, boat, u32::MAX);
-    let answer = judged.answer;
-    if let Answer::Refused(_, _) = answer {
-        return answer;
-    }
+    let newest = asking::judge(sheets, count, boat, u32::MAX)?;
     if 1 < side {
-        return Answer::Refused(22, 0);
+        return Err(Fault {
+            number: 22,
+            place: 0,
+        });
     }
-    let newest = judged.newest;
     if edition as u64 != asking::edition_after(newest) {
-        return Answer::Refused(21, 0);
+        return Err(Fault {
+            number: 21,
+            place: 0,
+        });
     }
     if (sheets.len() / 16) as u64 <= count {
-        return Answer::Refused(14, 0);
+        return Err(Fault {
+            number: 14,
+            place: 0,
+        });
     }
-    Answer::Accepted
+    Ok(())
 }
 
 // Adds a sheet behind so many stored ones.
@@ -34,7 +38,7 @@ pub fn add(sheets: &mut [u8], count: u64, boat: u32, edition: u32, side: u32) ->
     ensures { (result ≡ added sheets.old count (sheet boat edition side)) × (sheets.new ≡ bytes_after sheets.old count (sheet boat edition side)) }
 {
     let answer = add_answer(sheets, count, boat, edition, side);
-    if let Answer::Refused(_, _) = answer {
+    if answer.is_err() {
         return Added { answer, count };
     }
     let at = 16 * count as usize;
@@ -45,7 +49,7 @@ pub fn add(sheets: &mut [u8], count: u64, boat: u32, edition: u32, side: u32) ->
     };
     records::write_sheet(sheet, &mut sheets[at..]);
     Added {
-        answer: Answer::Accepted,
+        answer,
         count: count + 1,
     }
 }

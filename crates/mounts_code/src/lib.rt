@@ -1,4 +1,5 @@
-// Asks for mount sheets, adds them, and gives a measured shift its sign.
+// Asks for mount sheets, adds them, and gives a measured shift its sign. Stored sheets are bytes with a count beside them, since C lends them
+// so: no memory is fetched, and there may be room behind the last.
 #![tactic(auto)]
 
 mod adding;

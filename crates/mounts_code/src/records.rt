@@ -7,7 +7,8 @@ ghost use Rattle.mounts.specs.Sheets.{sheet_record, stored, sheet_at, sheet_of};
 
 use mounts::Sheet;
 
-// The number in four bytes.
+// The number in four bytes, as `word_at` of input_code: one public function for both would need an answer for every place, and edits of its
+// own.
 fn number_at(bytes: &[u8], at: usize) -> u32
     requires { at + 4 ≤ length bytes.now }
     ensures { result ≡ number_in (elements bytes.now at 4) }
@@ -15,7 +16,7 @@ fn number_at(bytes: &[u8], at: usize) -> u32
     fields_code::number32(bytes[at], bytes[at + 1], bytes[at + 2], bytes[at + 3])
 }
 
-// The sheet of record k.
+// The sheet of record k. That the bytes hold it is asked each time: no value holds them, since C lends them.
 pub(crate) fn sheet_at(sheets: &[u8], k: usize) -> Sheet
     requires { 16 * (k + 1) ≤ length sheets.now }
     ensures { result ≡ sheet_at sheets.now k }
@@ -38,7 +39,7 @@ pub(crate) fn zero_filler(sheets: &[u8], k: usize) -> bool
     three & (number_at(sheets, at + 12) == 0)
 }
 
-// The sheet of one record, all zero where there are not all its bytes.
+// The sheet of one record, all zero where there are not all its bytes: no `Option`, since the promise is `sheet_of`.
 pub fn sheet_in(record: &[u8]) -> Sheet
     ensures { result ≡ sheet_of «record».now }
 {

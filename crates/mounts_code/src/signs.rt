@@ -2,27 +2,35 @@
 ghost use Rattle.std.specs.Prelude.{◌≡◌};
 ghost use Rattle.mounts.specs.Signs.{on_port, vector_on};
 
-use mounts::{Shift, Turned};
+use answers::Fault;
+use mounts::Shift;
 
 // The vector of a shift that was measured on a port mount.
-fn on_port(x: i16, y: i16) -> Turned
-    ensures { result ≡ on_port x y }
+fn on_port(shift: Shift) -> Result<Shift, Fault>
+    ensures { result ≡ on_port shift.x shift.y }
 {
-    if x == -32768 {
-        return Turned::Refused(23, 0);
+    if shift.x == i16::MIN {
+        return Err(Fault {
+            number: 23,
+            place: 0,
+        });
     }
-    Turned::Vector(Shift { x: -x, y })
+    Ok(Shift {
+        x: -shift.x,
+        y: shift.y,
+    })
 }
 
 // The vector of a measured shift on a side.
-pub fn turn(side: u32, shift: Shift) -> Turned
+pub fn turn(side: u32, shift: Shift) -> Result<Shift, Fault>
     ensures { result ≡ vector_on side shift }
 {
-    if 1 < side {
-        return Turned::Refused(22, 0);
+    match side {
+        0 => Ok(shift),
+        1 => on_port(shift),
+        _ => Err(Fault {
+            number: 22,
+            place: 0,
+        }),
     }
-    if side == 0 {
-        return Turned::Vector(shift);
-    }
-    on_port(shift.x, shift.y)
 }

@@ -3,9 +3,8 @@ use mathlib.Core.List.{List}
 use mathlib.Core.Path.{◌≡◌, ap, subst, ◌∙◌}
 use Prim.Native.Nat.{ℕ}
 use Rattle.batch.specs.Demand.{reading_of, KeepsOthers, Demand3}
-use Rattle.batch.specs.Reports.{report}
+use Rattle.batch.specs.Reports.{report, Report}
 use Rattle.batch.specs.declared.Lengths.{Lengths}
-use Rattle.batch.specs.declared.Report.{Report}
 use Rattle.batch.proofs.BufferLengths.{settles_nothing, demand_by}
 use Rattle.parts.specs.States.{InParts}
 use Rattle.parts.proofs.Parts.{parts_whole}

@@ -1,14 +1,14 @@
 -- What the state of a check in parts stands for, and what its functions promise.
 -- Proved: against the report of the whole batch, by `parts_whole` (proofs/Parts.antt).
-use Rattle.std.specs.Prelude.{ℕ, ◌+◌, cond, ◌&&◌, ◌≡◌, leb, ltb, take}
+use Rattle.std.specs.Prelude.{Option, None, Some, is_some, Bool, ℕ, ◌+◌, cond, ◌&&◌, ◌≡◌, leb, ltb, take}
 use mathlib.Core.List.{List, [], foldl, flatten}
 use Rattle.lists.specs.Calls.{Along}
 use Rattle.headers.specs.Headers.{header_of, words_in}
 use Rattle.headers.specs.Words.{word_at}
-use Rattle.batch.specs.Reports.{finish}
+use Rattle.batch.specs.Reports.{finish, Report}
 use Rattle.batch.specs.Walk.{Walk, going, stopped, step, start, limit}
 use Rattle.batch.specs.declared.Lengths.{Lengths}
-use Rattle.batch.specs.declared.Report.{Report}
+use Rattle.answers.specs.declared.Fault.{Fault}
 use Rattle.parts.specs.declared.State.{State}
 
 -- The words that have come of the command in progress: those held, where they are fewer than the first of them asks for and
@@ -18,9 +18,16 @@ gathered s =
     cond s.progress.stage.ended []
     (cond (ltb s.held (words_in (header_of (word_at s.buffer 0))) && leb (s.at + s.held) limit) (take s.held s.buffer) [])
 
--- The walk that a state stands for.
+-- Whether a check has stopped, and the walk that a state stands for.
+abbrev pub has_stopped : State → Bool
+has_stopped s = is_some s.fault
+
+abbrev pub walk_of_fault : Option Fault → Walk → Walk
+walk_of_fault None w = w
+walk_of_fault (Some f) w = stopped f.number f.place
+
 unfoldable pub walk_in : State → Walk
-walk_in s = cond s.stopped (stopped s.number s.place) (going s.at s.progress (gathered s))
+walk_in s = walk_of_fault s.fault (going s.at s.progress (gathered s))
 
 -- What a fresh check with these lengths promises.
 abbrev pub Begun : Lengths → State → Type 0

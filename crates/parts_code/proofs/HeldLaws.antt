@@ -14,16 +14,16 @@ use Rattle.headers.specs.Headers.{header_of, words_in}
 use Rattle.headers.specs.Words.{word_at}
 use Rattle.headers.proofs.HeaderLaws.{words_few}
 use Rattle.progress.specs.declared.Progress.{Progress}
-use Rattle.progress.specs.declared.Verdict.{Verdict}
-use Rattle.progress.specs.declared.Verdict.TheVariants.{Next, Stop}
+use Rattle.std.specs.Prelude.{Ok, Err}
+use Rattle.progress.specs.Progress.{Verdict}
 use Rattle.sequence.specs.Judging.{judge}
-use Rattle.batch.specs.Walk.{Walk, going, stopped, limit, after, step, walk_of}
-use Rattle.batch.specs.declared.Walked.{Walked}
-use Rattle.batch.specs.declared.Walked.TheVariants.{Going}
+use Rattle.batch.specs.Walk.{Walk, going, stopped, limit, after, step, walk_of, Walked}
 use Rattle.batch.proofs.WalkLaws.{counted, within_limit, used_within, command, Short, left_short, short_few, resumed}
-use Rattle.parts.specs.States.{gathered, walk_in}
+use Rattle.std.specs.Prelude.{Option, None, Some, is_some}
+use Rattle.parts.specs.States.{gathered, has_stopped, walk_in}
+use Rattle.answers.specs.declared.Fault.{Fault}
 use Rattle.parts.specs.declared.State.{State}
-use Rattle.parts.proofs.Parts.{stopped_stays}
+use Rattle.parts.proofs.Parts.{walk_going, stopped_stays}
 
 -- how many words the command asks for whose first word is in the buffer
 abbrev pub asked : List ℕ → ℕ
@@ -108,13 +108,6 @@ kept p at n b (w ∷ g) (inr h) l q t =
     let fewer = h.1 in
     ap (λ (x : Bool). held_in x at n b) h.0 ∙ held_some at n b (omega arith) (omega arith) ∙ t
 
--- the first n words of a buffer where the first `need` of a part were stored behind the words held
-pub filled : (held need n : ℕ) (b part r : List ℕ) → need ≤ length part → held + need ≡ n
-    → take (held + length (take (need - 0) part)) r ≡ take held b ++ take (need - 0) part → take n r ≡ take held b ++ take need part
-filled held need n b part r h q e =
-    let zero : need - 0 ≡ need = omega arith in
-    slices.filled held need n b part r h q (rw zero at e)
-
 -- What whole commands leave of a run of words.
 pub record Rest (at used total : ℕ) : Type 0 where
   pub within : used ≤ total
@@ -122,7 +115,7 @@ pub record Rest (at used total : ℕ) : Type 0 where
   pub low : at + used ≤ limit
 
 module _ (at : ℕ) (p : Progress) (ws : List ℕ) (r : Walked) (q : Progress) (used : ℕ) (low : at ≤ limit)
-    (came : walk_of at ws r ≡ foldl step (going at p []) ws) (is : r ≡ Going q used) where
+    (came : walk_of at ws r ≡ foldl step (going at p []) ws) (is : r ≡ Ok (record { progress = q; used = used })) where
   reached : foldl step (going at p []) ws ≡ going (at + used) q (drop used ws)
   reached = sym came ∙ ap (walk_of at ws) is
 
@@ -149,8 +142,8 @@ Whole (stopped n place) = Unit
 
 whole_after : (at next : ℕ) (v : Verdict) → Whole (after at next v)
 unfolding after
-whole_after at next (Next p) = refl
-whole_after at next (Stop n word) = tt
+whole_after at next (Ok p) = refl
+whole_after at next (Err f) = tt
 
 -- A walk that goes on after the words of one command has gathered nothing.
 pub completed : (at : ℕ) (p : Progress) (ws : List ℕ) (at' : ℕ) (p' : Progress) (g' : List ℕ) → p.stage.ended ≡ false → at ≤ limit
@@ -164,12 +157,16 @@ completed at p ws at' p' g' e low some size came =
     one ∙ ap (foldl step (after at (at + length ws) (judge h p (take (length ws) ws)))) (drop-length ws) in
     subst Whole (sym judged ∙ came) (whole_after at (at + length ws) (judge h p (take (length ws) ws)))
 
-pub walk_going : (s : State) → s.stopped ≡ false → walk_in s ≡ going s.at s.progress (gathered s)
-unfolding walk_in
-walk_going s e = simp e
+-- a check that has not stopped
+pub no_fault : (s : State) → has_stopped s ≡ false → s.fault ≡ None
+no_fault s e = by s.fault refl
+  where
+    by : (x : Option Fault) → s.fault ≡ x → x ≡ None
+    by None z = refl
+    by (Some f) z = let no : true ≡ false = ap is_some (sym z) ∙ e in cc
 
 -- A state that holds nothing goes on from the beginning of the command in progress.
-pub from_none : (s : State) (ws : List ℕ) → s.stopped ≡ false → gathered s ≡ []
+pub from_none : (s : State) (ws : List ℕ) → s.fault ≡ None → gathered s ≡ []
     → foldl step (going s.at s.progress []) ws ≡ foldl step (walk_in s) ws
 from_none s ws e z = ap (λ (x : Walk). foldl step x ws) (sym (walk_going s e ∙ ap (going s.at s.progress) z))
 
@@ -180,14 +177,14 @@ module _ (w : Walk) (m : ℕ) (ws : List ℕ) (t : State) (came : walk_in t ≡ 
   on : foldl step w ws ≡ foldl step (walk_in t) (drop m ws)
   on = slices.split step w m ws ∙ ap (λ (x : Walk). foldl step x (drop m ws)) (sym came)
 
-  pub then_stopped : t.stopped ≡ true → walk_in t ≡ foldl step w ws
+  pub then_stopped : has_stopped t ≡ true → walk_in t ≡ foldl step w ws
   then_stopped e = stopped_stays t (drop m ws) e ∙ sym on
 
-  pub then_going : t.stopped ≡ false → gathered t ≡ [] → foldl step (going t.at t.progress []) (drop m ws) ≡ foldl step w ws
+  pub then_going : t.fault ≡ None → gathered t ≡ [] → foldl step (going t.at t.progress []) (drop m ws) ≡ foldl step w ws
   then_going e z = from_none t (drop m ws) e z ∙ sym on
 
 -- A state that holds the first n words of a command.
-module _ (s : State) (n : ℕ) (e : s.stopped ≡ false) (len : length s.buffer ≡ 61) (count : n ≡ length (gathered s)) (some : 1 ≤ n) where
+module _ (s : State) (n : ℕ) (e : s.fault ≡ None) (len : length s.buffer ≡ 61) (count : n ≡ length (gathered s)) (some : 1 ≤ n) where
   held_open : Open s.progress.stage.ended s.at s.held s.buffer
   unfolding gathered
   held_open = opened s.progress.stage.ended s.at s.held s.buffer len (omega arith)
@@ -225,7 +222,7 @@ module _ (s : State) (n : ℕ) (e : s.stopped ≡ false) (len : length s.buffer 
       ∙ ap (λ (x : Walk). foldl step x ws) (sym (walk_going s e))
 
   -- a state that goes on when that command is complete holds nothing
-  pub held_completed : (ws : List ℕ) → n + length ws ≡ asked s.buffer → (t : State) → t.stopped ≡ false
+  pub held_completed : (ws : List ℕ) → n + length ws ≡ asked s.buffer → (t : State) → t.fault ≡ None
       → walk_in t ≡ foldl step (going s.at s.progress []) (take n s.buffer ++ ws) → gathered t ≡ []
   held_completed ws size t f came =
       let fits = held_fits in

@@ -2,15 +2,16 @@
 ghost use Rattle.parts.specs.States.{Answered};
 
 use crate::holding;
-use batch::Report;
+use answers::Fault;
+use batch::{Refusal, Reported};
 use parts::State;
 
 // The answer to all words so far, taken as a whole batch.
-pub fn answer(state: State) -> Report
+pub fn answer(state: State) -> Result<Reported, Refusal>
     ensures { Answered state result }
 {
-    if state.stopped {
-        return Report::Refused(state.number, state.place);
+    if let Some(fault) = state.fault {
+        return Err(Refusal::Broken(fault));
     }
     if state.progress.stage.ended {
         let progress = state.progress;
@@ -18,5 +19,8 @@ pub fn answer(state: State) -> Report
         return batch_code::report_of(progress, lengths);
     }
     let held = holding::held_words(state);
-    Report::Refused(1, state.at as u64 + held as u64)
+    Err(Refusal::Broken(Fault {
+        number: 1,
+        place: state.at as u64 + held as u64,
+    }))
 }

@@ -1,40 +1,35 @@
 // A check from its beginning, and the next part of its batch.
-ghost use Rattle.std.specs.Prelude.{◌≡◌, false, ◌≤◌, length};
+ghost use Rattle.std.specs.Prelude.{◌≡◌, None, ◌≤◌, length};
 ghost use mathlib.Core.List.{[], foldl};
 ghost use Rattle.batch.specs.Walk.{going, stopped, step};
 ghost use Rattle.parts.specs.States.{gathered, walk_in, Begun, Handed};
 
 use crate::holding;
-use batch::{Lengths, Walked};
+use answers::Fault;
+use batch::Lengths;
 use parts::State;
-use progress::Progress;
 
 // A check with four buffers of these lengths, before its first word.
 pub fn begin(lengths: Lengths) -> State
     ensures { Begun lengths result }
 {
     let progress = progress_code::fresh();
-    let buffer = [0u32; 61];
     State {
         progress,
         at: 0,
         held: 0,
-        stopped: false,
-        number: 0,
-        place: 0,
+        fault: None,
         lengths,
-        buffer,
+        buffer: [0u32; 61],
     }
 }
 
 // The state of a check that has refused.
-fn halted(state: State, number: u8, place: u64) -> State
-    ensures { (walk_in result ≡ stopped number place) × (result.lengths ≡ state.lengths) }
+fn halted(state: State, fault: Fault) -> State
+    ensures { (walk_in result ≡ stopped fault.number fault.place) × (result.lengths ≡ state.lengths) }
 {
     let mut next = state;
-    next.stopped = true;
-    next.number = number;
-    next.place = place;
+    next.fault = Some(fault);
     next
 }
 
@@ -46,20 +41,19 @@ fn walk_on(state: State, words: &[u32]) -> State
     let progress = state.progress;
     let at = state.at;
     match batch_code::walk(progress, at, words) {
-        Walked::Stopped(number, place) => halted(state, number, place),
-        Walked::Going(next, used) => {
+        Err(fault) => halted(state, fault),
+        Ok(taken) => {
+            let used = taken.used;
             let old = state.buffer;
             let lengths = state.lengths;
-            let buffer = holding::append(old, 0, &words[used..]);
+            let buffer = lists_code::append(old, 0, &words[used..]);
             let begins = at + used as u32;
             let left = words.len() - used;
             State {
-                progress: next,
+                progress: taken.progress,
                 at: begins,
                 held: left,
-                stopped: false,
-                number: 0,
-                place: 0,
+                fault: None,
                 lengths,
                 buffer,
             }
@@ -69,7 +63,7 @@ fn walk_on(state: State, words: &[u32]) -> State
 
 // A part behind the words that are held: first those that complete their command, then the others.
 fn complete(state: State, held: usize, part: &[u32]) -> State
-    requires { (state.stopped ≡ false) × ((held ≡ length (gathered state)) × (1 ≤ held)) }
+    requires { (state.fault ≡ None) × ((held ≡ length (gathered state)) × (1 ≤ held)) }
     ensures { Handed state part.now result }
 {
     let old = state.buffer;
@@ -77,13 +71,13 @@ fn complete(state: State, held: usize, part: &[u32]) -> State
     let n = commands_code::command_words(first);
     let need = n - held;
     if part.len() <= need {
-        let buffer = holding::append(old, held, part);
+        let buffer = lists_code::append(old, held, part);
         let end = held + part.len();
         return walk_on(state, &buffer[..end]);
     }
-    let buffer = holding::append(old, held, &part[0..need]);
+    let buffer = lists_code::append(old, held, &part[..need]);
     let next = walk_on(state, &buffer[..n]);
-    if next.stopped {
+    if next.fault.is_some() {
         return next;
     }
     walk_on(next, &part[need..])
@@ -93,7 +87,7 @@ fn complete(state: State, held: usize, part: &[u32]) -> State
 pub fn hand_over(state: State, part: &[u32]) -> State
     ensures { Handed state part.now result }
 {
-    if state.stopped {
+    if state.fault.is_some() {
         return state;
     }
     let held = holding::held_words(state);

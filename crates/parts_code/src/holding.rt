@@ -1,5 +1,5 @@
 // The words that are held of a command that is not complete.
-ghost use Rattle.std.specs.Prelude.{◌≡◌, ◌++◌, ◌+◌, ◌≤◌, length, take};
+ghost use Rattle.std.specs.Prelude.{◌≡◌, ◌≤◌, length};
 ghost use Rattle.parts.specs.States.{gathered};
 
 use parts::State;
@@ -20,18 +20,4 @@ pub(crate) fn held_words(state: State) -> usize
         return 0;
     }
     held
-}
-
-// Some words behind the first `from` words of a buffer.
-pub(crate) fn append(buffer: [u32; 61], from: usize, words: &[u32]) -> [u32; 61]
-    requires { from + length words.now ≤ 61 }
-    ensures { (take (from + length words.now) result ≡ take from buffer ++ words.now) × (length result ≡ 61) }
-{
-    let mut b = buffer;
-    let mut i = 0;
-    while i < words.len() {
-        b[from + i] = words[i];
-        i += 1;
-    }
-    b
 }

@@ -5,9 +5,7 @@ use mathlib.Core.Path.{◌≡◌, refl, sym, ap, ◌∙◌}
 use Prim.Native.Nat.{ℕ}
 use lib.Dec.{eqb}
 use Rattle.fields.specs.Word.{bits, has_bits, zero_bits}
-use Rattle.answers.specs.Answers.{rule, judged}
-use Rattle.answers.specs.declared.Answer.{Answer}
-use Rattle.answers.specs.declared.Answer.TheVariants.{Refused}
+use Rattle.answers.specs.Answers.{rule, judged, refused, Answer}
 use Rattle.headers.specs.Words.{word_at}
 use Rattle.picture.specs.Before.{picture_rules_before}
 use Rattle.picture.specs.Pictures.{picture_of, codes_permitted, size_permitted, picture_rules}
@@ -25,7 +23,7 @@ with_false : (a b : Bool) → (a && false) && b ≡ false
 with_false true b = refl
 with_false false b = refl
 
-refused_first : (typed sized : Bool) → answered false typed sized ≡ Refused 4 1
+refused_first : (typed sized : Bool) → answered false typed sized ≡ refused 4 1
 refused_first true true = refl
 refused_first true false = refl
 refused_first false true = refl
@@ -45,7 +43,7 @@ picture_before f ws e =
     ∙ ap (λ (n : ℕ). answered ((upper && eqb n 1) && lower) typed sized) (sym e)
 
 -- "PICTURE bit 10 may now be 0": before, that gave 4 at word 1, whatever else the command broke.
-pub picture_refused_before : (f : Frame) (ws : List ℕ) → bits (word_at ws 1) 10 10 ≡ 0 → judged (picture_rules_before f ws) ≡ Refused 4 1
+pub picture_refused_before : (f : Frame) (ws : List ℕ) → bits (word_at ws 1) 10 10 ≡ 0 → judged (picture_rules_before f ws) ≡ refused 4 1
 unfolding picture_rules_before
 picture_refused_before f ws e =
     let p = picture_of ws in

@@ -7,8 +7,7 @@ use native.Mathlib.Omega.{arith}
 use borrow.Author.Tests.{leb-true}
 use lib.Dec.{T, leb}
 use Rattle.lists.proofs.Booleans.{and_left, and_right}
-use Rattle.answers.specs.Answers.{judged}
-use Rattle.answers.specs.declared.Answer.TheVariants.{Accepted}
+use Rattle.answers.specs.Answers.{judged, Accepted}
 use Rattle.answers.proofs.Judging.{rule_kept}
 use Rattle.picture.specs.Pictures.{picture_of, fits, picture_rules}
 use Rattle.picture.specs.Surfaces.{surface_rules}

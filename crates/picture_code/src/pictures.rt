@@ -3,7 +3,10 @@ ghost use Rattle.std.specs.Prelude.{◌≡◌};
 ghost use Rattle.answers.specs.Answers.{judged};
 ghost use Rattle.picture.specs.Pictures.{picture_of, code_in_use, in_use, unused, codes_permitted, fits, size_permitted, picture_bits1, picture_rules};
 
-use answers::Answer;
+use answers::Fault;
+use answers_code::rule;
+use fields_code::{bits, has_bits, is_set};
+use headers_code::word_at;
 use picture::{Codes, Frame, Picture};
 use prediction::Grid;
 
@@ -12,27 +15,27 @@ use prediction::Grid;
 pub fn picture_of(words: &[u32]) -> Picture
     ensures { result ≡ picture_of words.now }
 {
-    let one = headers_code::word_at(words, 1);
-    let two = headers_code::word_at(words, 2);
-    let three = headers_code::word_at(words, 3);
+    let one = word_at(words, 1);
+    let two = word_at(words, 2);
+    let three = word_at(words, 3);
     let forward = Codes {
-        x: fields_code::bits(one, 19, 16) as u8,
-        y: fields_code::bits(one, 23, 20) as u8,
+        x: bits(one, 19, 16) as u8,
+        y: bits(one, 23, 20) as u8,
     };
     let backward = Codes {
-        x: fields_code::bits(one, 27, 24) as u8,
-        y: fields_code::bits(one, 31, 28) as u8,
+        x: bits(one, 27, 24) as u8,
+        y: bits(one, 31, 28) as u8,
     };
     let grid = Grid {
-        columns: (fields_code::bits(three, 7, 0) + 1) as u16,
-        rows: (fields_code::bits(three, 23, 16) + 1) as u16,
+        columns: (bits(three, 7, 0) + 1) as u16,
+        rows: (bits(three, 23, 16) + 1) as u16,
     };
     Picture {
-        coding: fields_code::bits(two, 10, 9) as u8,
+        coding: bits(two, 10, 9) as u8,
         forward,
         backward,
         grid,
-        frame_pred_frame_dct: fields_code::is_set(one, 10),
+        frame_pred_frame_dct: is_set(one, 10),
     }
 }
 
@@ -40,8 +43,8 @@ pub fn picture_of(words: &[u32]) -> Picture
 fn picture_bits1(one: u32) -> bool
     ensures { result ≡ picture_bits1 one }
 {
-    let upper = fields_code::has_bits(one, 13, 12, 3);
-    let lower = fields_code::has_bits(one, 9, 9, 0) & fields_code::has_bits(one, 5, 0, 0);
+    let upper = has_bits(one, 13, 12, 3);
+    let lower = has_bits(one, 9, 9, 0) & has_bits(one, 5, 0, 0);
     upper & lower
 }
 
@@ -66,13 +69,14 @@ fn unused(codes: Codes) -> bool
 }
 
 // Whether the type is one of the three, and the f codes are the type's.
-fn codes_permitted(coding: u8, forward: Codes, backward: Codes) -> bool
-    ensures { result ≡ codes_permitted coding forward backward }
+fn codes_permitted(picture: Picture) -> bool
+    ensures { result ≡ codes_permitted picture.coding picture.forward picture.backward }
 {
-    let forward_in_use = in_use(forward);
-    let forward_unused = unused(forward);
-    let backward_in_use = in_use(backward);
-    let backward_unused = unused(backward);
+    let coding = picture.coding;
+    let forward_in_use = in_use(picture.forward);
+    let forward_unused = unused(picture.forward);
+    let backward_in_use = in_use(picture.backward);
+    let backward_unused = unused(picture.backward);
     let i = (coding == 1) & (forward_unused & backward_unused);
     let p = (coding == 2) & (forward_in_use & backward_unused);
     let b = (coding == 3) & (forward_in_use & backward_in_use);
@@ -103,16 +107,13 @@ fn size_permitted(frame: Frame, grid: Grid) -> bool
 }
 
 // The first rule that a PICTURE command breaks on its surface, with its word as the place.
-pub fn picture_fault(frame: Frame, words: &[u32]) -> Answer
+#[tactic(auto, unfolding(picture::specs::Pictures::picture_rules), using(answers::proofs::Judging::in_turn))]
+pub fn picture_fault(frame: Frame, words: &[u32]) -> Result<(), Fault>
     ensures { result ≡ judged (picture_rules frame words.now) }
 {
     let picture = picture_of(words);
-    let forward = picture.forward;
-    let backward = picture.backward;
-    let grid = picture.grid;
-    let bits1 = picture_bits1(headers_code::word_at(words, 1));
-    let typed = codes_permitted(picture.coding, forward, backward);
-    let a = answers_code::unless(Answer::Accepted, 4, 1, bits1);
-    let a = answers_code::unless(a, 5, 2, typed);
-    answers_code::unless(a, 5, 3, size_permitted(frame, grid))
+    let bits1 = picture_bits1(word_at(words, 1));
+    rule(4, 1, bits1)
+        .and(rule(5, 2, codes_permitted(picture)))
+        .and(rule(5, 3, size_permitted(frame, picture.grid)))
 }

@@ -9,8 +9,7 @@ use Rattle.lists.proofs.Booleans.{no}
 use Rattle.prediction.specs.Extents.{empty_extent, joined}
 use Rattle.prediction.specs.declared.Extent.{Extent}
 use Rattle.prediction.proofs.ExtentLaws.{join_right, empty_end}
-use Rattle.answers.specs.Answers.{Rule, rule, judged, earlier, answer_by}
-use Rattle.answers.specs.declared.Answer.TheVariants.{Accepted}
+use Rattle.answers.specs.Answers.{Rule, rule, judged, earlier, answer_by, Accepted}
 use Rattle.answers.proofs.Judging.{both_accept}
 use Rattle.headers.specs.Words.{word_at}
 use Rattle.macroblock.specs.Before.{macroblock_before, command_rules_before}

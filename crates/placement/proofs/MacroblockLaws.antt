@@ -1,43 +1,23 @@
--- What holds of a MACROBLOCK command that keeps its rules, and the parts of its judgement put together.
-use mathlib.Core.Path.{◌≡◌, refl, sym, ◌∙◌, ap, ap₂}
+-- What holds of a MACROBLOCK command that keeps its rules.
+use mathlib.Core.Path.{◌≡◌, refl}
 use mathlib.Core.Bool.{Bool, true, ◌&&◌}
 use mathlib.Core.List.{List}
 use Prim.Native.Nat.{ℕ, ◌<◌, ◌≤◌}
 use borrow.Author.Tests.{ltb-true, eqb-true, eq-eqb, le-leb}
 use lib.Dec.{T, eqb, ltb}
 use Rattle.lists.proofs.Booleans.{and_left, and_right, both_true}
-use Rattle.answers.specs.Answers.{earlier, judged}
-use Rattle.answers.specs.declared.Answer.{Answer}
-use Rattle.answers.specs.declared.Answer.TheVariants.{Accepted}
-use Rattle.answers.proofs.Judging.{judged_append, both_accept, rule_kept, within_both}
+use Rattle.answers.specs.Answers.{judged, Accepted}
+use Rattle.answers.proofs.Judging.{both_accept, rule_kept, within_both}
 use Rattle.headers.specs.Words.{word_at}
 use Rattle.macroblock.specs.Macroblocks.{macroblock_of}
 use Rattle.macroblock.specs.Rules.{alone, command_rules}
-use Rattle.macroblock.specs.declared.Macroblock.{Macroblock}
 use Rattle.macroblock.proofs.AllowedLaws.{kept_alone}
 use Rattle.macroblock.proofs.CommandLaws.{command_within}
 use Rattle.progress.specs.declared.Progress.{Progress}
 use Rattle.placement.specs.Blocks.{blocks_of}
 use Rattle.placement.specs.Placing.{allowed_in, zero_vectors, repeats, placed_rules, macroblock_rules}
-use Rattle.placement.specs.Progressing.{previous_of, progress_after, macroblock_next}
-use Rattle.placement.specs.declared.Blocks.{Blocks}
+use Rattle.placement.specs.Progressing.{previous_of}
 use Rattle.answers.specs.Tables.{within}
-
--- the answer, from the answers to the two tables
-pub judged_whole : (p : Progress) (ws : List ℕ) {m : Macroblock} {b : Blocks} {a d f : Answer} → m ≡ macroblock_of ws
-    → b ≡ blocks_of p m.case → a ≡ judged (placed_rules p b m ws) → d ≡ judged (command_rules (allowed_in p.picture) ws) → f ≡ earlier a d
-    → f ≡ judged (macroblock_rules p ws)
-unfolding macroblock_rules
-judged_whole p ws {m} {b} em eb ea ed ef =
-    let placed = placed_rules p (blocks_of p (macroblock_of ws).case) (macroblock_of ws) ws in
-    let same : placed_rules p b m ws ≡ placed = simp (eb, em) in
-    ef ∙ ap₂ earlier (ea ∙ ap judged same) ed ∙ sym (judged_append placed (command_rules (allowed_in p.picture) ws))
-
--- the progress after it
-pub next_whole : (p : Progress) (ws : List ℕ) {m : Macroblock} {b : Blocks} {n : Progress} → m ≡ macroblock_of ws
-    → b ≡ blocks_of p m.case → n ≡ progress_after p b m ws → n ≡ macroblock_next p ws
-unfolding macroblock_next
-next_whole p ws em eb en = en ∙ simp (eb, em)
 
 -- A macroblock that is accepted comes before the picture is full.
 pub row_left : (p : Progress) (ws : List ℕ) → judged (macroblock_rules p ws) ≡ Accepted → p.position.row < p.picture.grid.rows

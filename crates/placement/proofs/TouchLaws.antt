@@ -8,8 +8,7 @@ use Rattle.lists.proofs.Booleans.{no}
 use Rattle.prediction.specs.Vectors.{still}
 use Rattle.prediction.specs.Extents.{joined, Exact}
 use Rattle.prediction.specs.Blocks.{Occupies, block_at}
-use Rattle.prediction.specs.declared.Block.{Block}
-use Rattle.prediction.specs.declared.Block.TheVariants.{Outside, Inside}
+use Rattle.std.specs.Prelude.{Some, None, Option}
 use Rattle.prediction.specs.declared.Extent.{Extent}
 use Rattle.prediction.specs.declared.Grid.{Grid}
 use Rattle.prediction.specs.declared.Position.{Position}
@@ -19,19 +18,16 @@ use Rattle.prediction.proofs.BlockLaws.{block_exact, own_inside}
 use Rattle.prediction.proofs.ExtentLaws.{empty_exact, exact_same, join_exact}
 use Rattle.prediction.specs.declared.Structure.{Structure}
 use Rattle.prediction.specs.declared.Structure.TheVariants.{Frame}
-use Rattle.answers.specs.Answers.{judged}
-use Rattle.answers.specs.declared.Answer.TheVariants.{Accepted}
+use Rattle.answers.specs.Answers.{judged, Accepted}
 use Rattle.answers.proofs.Judging.{rule_kept}
 use Rattle.macroblock.specs.Macroblocks.{macroblock_of}
 use Rattle.picture.specs.declared.Codes.{Codes}
 use Rattle.progress.specs.Buffers.{Buffer, source, reconstructed, forward, backward, extent_of}
 use Rattle.progress.specs.declared.Progress.{Progress}
-use Rattle.placement.specs.Blocks.{forward_of, backward_of, bottom_of, is_inside, extent_in, predicted, blocks_of}
+use Rattle.placement.specs.Blocks.{forward_of, backward_of, bottom_of, is_inside, extent_in, predicted, blocks_of, Reference}
 use Rattle.placement.specs.Placing.{placed_rules, macroblock_rules}
 use Rattle.placement.specs.Progressing.{extents_after, progress_after, macroblock_next}
 use Rattle.placement.specs.Touching.{references_in, TouchedThrough, TouchedBy}
-use Rattle.placement.specs.declared.Reference.{Reference}
-use Rattle.placement.specs.declared.Reference.TheVariants.{Unused, At}
 use Rattle.placement.proofs.MacroblockLaws.{row_left}
 
 -- a block that lies inside
@@ -39,9 +35,9 @@ inside_exact : (k : Structure) (s : Surface) (g : Grid) (at : Position) (v : Vec
     → Exact (Occupies k s at v) (extent_in (block_at k s g at v))
 inside_exact k s g at v wide = by (block_at k s g at v) refl
   where
-    by : (b : Block) → block_at k s g at v ≡ b → is_inside b ≡ true → Exact (Occupies k s at v) (extent_in b)
-    by Outside e h = absurd (no h)
-    by (Inside x) e h = block_exact k s g at v x wide e
+    by : (b : Option Extent) → block_at k s g at v ≡ b → is_inside b ≡ true → Exact (Occupies k s at v) (extent_in b)
+    by None e h = absurd (no h)
+    by (Some x) e h = block_exact k s g at v x wide e
 
 -- a macroblock's own samples
 own_exact : (s : Surface) (g : Grid) (at : Position) → 16 ≤ s.pitch → at.column < g.columns → at.row < g.rows
@@ -52,8 +48,8 @@ own_exact s g at wide x y = let e = own_inside s g at x y in inside_exact Frame 
 predicted_exact : (s : Surface) (g : Grid) (at : Position) (c : Codes) (r : Reference) → 16 ≤ s.pitch → (predicted s g at c r).inside ≡ true
     → Exact (TouchedThrough s at r) (predicted s g at c r).extent
 unfolding predicted
-predicted_exact s g at c Unused wide h = empty_exact
-predicted_exact s g at c (At k v) wide h = inside_exact k s g at v wide h
+predicted_exact s g at c None wide h = empty_exact
+predicted_exact s g at c (Some (k, v)) wide h = inside_exact k s g at v wide h
 
 -- one block, and two, joined to what was touched before
 module _ {Before : ℕ → Type 0} {e : Extent} (before : Exact Before e) (s : Surface) (at : Position) where
@@ -105,8 +101,8 @@ next_exact p ws accepted wide in_row b before = by b before
 
     by : (b : Buffer) {Before : ℕ → Type 0} → Exact Before (extent_of b p.extents)
         → Exact (λ (byte : ℕ). Before byte ⊎ TouchedBy s p.position (references_in b (macroblock_of ws).case) byte) (extent_of b (macroblock_next p ws).extents)
-    by source before = one_more before s p.position (At Frame still) own
-    by reconstructed before = one_more before s p.position (At Frame still) own
+    by source before = one_more before s p.position (Some (Frame, still)) own
+    by reconstructed before = one_more before s p.position (Some (Frame, still)) own
     by forward before =
         two_more before s p.position (forward_of (macroblock_of ws).case) (bottom_of (macroblock_of ws).case)
         (through p.picture.forward (forward_of (macroblock_of ws).case) (rule_kept 10 5 (macroblock_rules p ws) accepted))

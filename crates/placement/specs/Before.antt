@@ -1,7 +1,7 @@
 -- A MACROBLOCK's rules in its picture, and what it changes, as they were before document 02's R-6: no type 04h, and no block of a field. "All else
 -- stays for bit 10 = 1." What is quoted besides is document 01.
 -- Proved: where PICTURE's bit 10 is 1, against the rules and the changes as they are, by `macroblock_before_lem` (proofs/Before.antt).
-use Rattle.std.specs.Prelude.{ℕ, Bool, not, ◌&&◌, ◌||◌, List, [], ◌∷◌, ◌++◌, eqb}
+use Rattle.std.specs.Prelude.{ℕ, Bool, not, ◌&&◌, ◌||◌, List, [], ◌∷◌, ◌++◌, eqb, Some, None}
 use Rattle.prediction.specs.Vectors.{still}
 use Rattle.prediction.specs.Extents.{joined}
 use Rattle.prediction.specs.Blocks.{block_at}
@@ -15,12 +15,10 @@ use Rattle.macroblock.specs.declared.Macroblock.{Macroblock}
 use Rattle.macroblock.specs.declared.Prediction.TheVariants.{Forward, Backward, Both, Field}
 use Rattle.progress.specs.declared.Extents.{Extents}
 use Rattle.progress.specs.declared.Progress.{Progress}
-use Rattle.placement.specs.Blocks.{extent_in, predicted}
+use Rattle.placement.specs.Blocks.{extent_in, predicted, Reference}
 use Rattle.placement.specs.Placing.{in_sequence, skip_permitted, at_position, conversion_permitted, flags_agree}
 use Rattle.placement.specs.Progressing.{position_after, stage_after, previous_of}
 use Rattle.placement.specs.declared.Predicted.{Predicted}
-use Rattle.placement.specs.declared.Reference.{Reference}
-use Rattle.placement.specs.declared.Reference.TheVariants.{Unused, At}
 
 -- "I allows intra only, P intra and 1, B all."
 abbrev pub coding_permits_before : ℕ → ℕ → Bool
@@ -28,18 +26,18 @@ coding_permits_before coding kind = eqb kind 0 || ((eqb coding 2 && eqb kind 1) 
 
 -- "An inter macroblock carries its prediction, and that is forward, backward or both", in the frame. There was no other case.
 abbrev pub forward_before : Case → Reference
-forward_before Intra = Unused
-forward_before (Inter (Forward f)) = At Frame f
-forward_before (Inter (Backward b)) = Unused
-forward_before (Inter (Both f b)) = At Frame f
-forward_before (Inter (Field t b i j)) = Unused
+forward_before Intra = None
+forward_before (Inter (Forward f)) = Some (Frame, f)
+forward_before (Inter (Backward b)) = None
+forward_before (Inter (Both f b)) = Some (Frame, f)
+forward_before (Inter (Field t b i j)) = None
 
 abbrev pub backward_before : Case → Reference
-backward_before Intra = Unused
-backward_before (Inter (Forward f)) = Unused
-backward_before (Inter (Backward b)) = At Frame b
-backward_before (Inter (Both f b)) = At Frame b
-backward_before (Inter (Field t b i j)) = Unused
+backward_before Intra = None
+backward_before (Inter (Forward f)) = None
+backward_before (Inter (Backward b)) = Some (Frame, b)
+backward_before (Inter (Both f b)) = Some (Frame, b)
+backward_before (Inter (Field t b i j)) = None
 
 -- The blocks that a macroblock is predicted from in the forward and in the backward reference.
 abbrev pub forward_block_before : Progress → Case → Predicted

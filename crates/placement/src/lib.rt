@@ -1,19 +1,13 @@
 // The rules of a MACROBLOCK command in its picture, and what it touches.
 #![tactic(auto)]
 
-use prediction::{Extent, Structure, Vector};
-
-// A reference picture as one macroblock uses it: not at all, or at a vector, in rows of a structure.
-#[derive(Clone, Copy)]
-pub enum Reference {
-    Unused,
-    At(Structure, Vector),
-}
+use prediction::Extent;
 
 // Whether a predicted block keeps its rules, and what it touches of its reference.
 #[derive(Clone, Copy)]
 pub struct Predicted {
     pub in_range: bool,
+    // A flag beside the extent and no Option: a reference that is not used touches nothing and yet keeps its rule.
     pub inside: bool,
     pub extent: Extent,
 }

@@ -6,22 +6,20 @@ ghost use Rattle.placement.specs.Placing.{macroblock_rules};
 ghost use Rattle.placement.specs.Progressing.{macroblock_next};
 
 use crate::{placing, progressing, touching};
-use answers::Answer;
-use progress::{Progress, Verdict};
+use answers::Fault;
+use answers_code::earlier;
+use progress::Progress;
 
 // What a MACROBLOCK command comes to.
-pub fn judge_macroblock(progress: Progress, words: &[u32]) -> Verdict
+#[tactic(auto, unfolding(placement::specs::Placing::macroblock_rules, placement::specs::Progressing::macroblock_next), using(answers::proofs::Judging::judged_append))]
+pub fn judge_macroblock(progress: Progress, words: &[u32]) -> Result<Progress, Fault>
     ensures { result ≡ concluded (judged (macroblock_rules progress words.now)) (macroblock_next progress words.now) }
 {
     let macroblock = macroblock_code::macroblock_of(words);
-    let case = macroblock.case;
-    let blocks = touching::blocks_of(progress, case);
-    let fault = answers_code::earlier(
+    let blocks = touching::blocks_of(progress, macroblock.case);
+    earlier(
         placing::placed_fault(progress, blocks, macroblock, words),
         macroblock_code::fault_of(placing::allowed_in(progress.picture), words),
-    );
-    if let Answer::Refused(number, word) = fault {
-        return Verdict::Stop(number, word);
-    }
-    Verdict::Next(progressing::progress_after(progress, blocks, macroblock, words))
+    )?;
+    Ok(progressing::progress_after(progress, blocks, macroblock, words))
 }

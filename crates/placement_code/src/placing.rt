@@ -1,20 +1,16 @@
 // Whether a macroblock keeps the rules of its picture.
 ghost use Rattle.std.specs.Prelude.{◌≡◌};
 ghost use Rattle.answers.specs.Answers.{judged};
-ghost use Rattle.placement.specs.Placing.{exactly, coding_permits, allowed_in, zero_vectors, repeats, skip_permitted, conversion_permitted, flags_agree, placed_rules};
+ghost use Rattle.placement.specs.Placing.{coding_permits, allowed_in, zero_vectors, repeats, skip_permitted, conversion_permitted, flags_agree, placed_rules};
 
-use answers::Answer;
+use crate::progressing::previous_of;
+use answers::Fault;
+use answers_code::rule;
+use headers_code::word_at;
 use macroblock::{Allowed, Flags, Macroblock};
 use picture::Picture;
 use placement::Blocks;
-use prediction::{Grid, Position};
-use progress::{Previous, Progress, Stage};
-
-fn exactly(a: bool, b: bool) -> bool
-    ensures { result ≡ exactly a b }
-{
-    (a & b) | (!a & !b)
-}
+use progress::{Previous, Progress};
 
 fn coding_permits(coding: u8, kind: u8) -> bool
     ensures { result ≡ coding_permits coding kind }
@@ -23,6 +19,7 @@ fn coding_permits(coding: u8, kind: u8) -> bool
 }
 
 // What a picture allows.
+#[tactic(auto, unfolding(placement::specs::Placing::allowed_in))]
 pub fn allowed_in(picture: Picture) -> Allowed
     ensures { result ≡ allowed_in picture }
 {
@@ -37,10 +34,10 @@ pub fn allowed_in(picture: Picture) -> Allowed
 pub fn zero_vectors(words: &[u32]) -> bool
     ensures { result ≡ zero_vectors words.now }
 {
-    let five = headers_code::word_at(words, 5);
-    let six = headers_code::word_at(words, 6);
-    let seven = headers_code::word_at(words, 7);
-    let eight = headers_code::word_at(words, 8);
+    let five = word_at(words, 5);
+    let six = word_at(words, 6);
+    let seven = word_at(words, 7);
+    let eight = word_at(words, 8);
     ((five == 0) & (six == 0)) & ((seven == 0) & (eight == 0))
 }
 
@@ -48,28 +45,27 @@ pub fn zero_vectors(words: &[u32]) -> bool
 fn repeats(before: Previous, kind: u8, words: &[u32]) -> bool
     ensures { result ≡ repeats before kind words.now }
 {
-    let five = before.five == headers_code::word_at(words, 5);
-    let six = before.six == headers_code::word_at(words, 6);
-    let seven = before.seven == headers_code::word_at(words, 7);
-    let eight = before.eight == headers_code::word_at(words, 8);
-    let inter = (1 <= before.kind) & (before.kind == kind);
-    inter & ((five & six) & (seven & eight))
+    (1 <= before.kind) & (before == previous_of(kind, words))
 }
 
-fn skip_permitted(coding: u8, before: Previous, kind: u8, words: &[u32]) -> bool
-    ensures { result ≡ skip_permitted coding before kind words.now }
+fn skip_permitted(progress: Progress, kind: u8, words: &[u32]) -> bool
+    ensures { result ≡ skip_permitted progress.picture.coding progress.previous kind words.now }
 {
+    let coding = progress.picture.coding;
     let zero = zero_vectors(words);
-    let repeated = repeats(before, kind, words);
-    (!(coding == 2) | zero) & (!(coding == 3) | repeated)
+    let repeated = repeats(progress.previous, kind, words);
+    ((coding != 2) | zero) & ((coding != 3) | repeated)
 }
 
-fn flags_agree(stage: Stage, grid: Grid, position: Position, flags: Flags) -> bool
-    ensures { result ≡ flags_agree stage grid position flags }
+fn flags_agree(progress: Progress, flags: Flags) -> bool
+    ensures { result ≡ flags_agree progress.stage progress.picture.grid progress.position flags }
 {
+    let stage = progress.stage;
+    let grid = progress.picture.grid;
+    let position = progress.position;
     let last_column = position.column as u32 + 1 == grid.columns as u32;
-    let slice_begins = exactly(flags.first_in_slice, !stage.in_slice);
-    let group_begins = exactly(flags.first_in_group, stage.group_start);
+    let slice_begins = flags.first_in_slice == !stage.in_slice;
+    let group_begins = flags.first_in_group == stage.group_start;
     let slice_ends = !last_column | flags.last_in_slice;
     let group_ends = !flags.last_in_group | flags.last_in_slice;
     (slice_begins & slice_ends) & (group_begins & group_ends)
@@ -78,44 +74,36 @@ fn flags_agree(stage: Stage, grid: Grid, position: Position, flags: Flags) -> bo
 fn conversion_permitted(coding: u8, flags: Flags) -> bool
     ensures { result ≡ conversion_permitted coding flags }
 {
-    !(coding == 1) | !flags.no_skip_conversion
+    (coding != 1) | !flags.no_skip_conversion
 }
 
-// The first rule of its picture that a macroblock with these blocks breaks, with its word as the place.
+// The first rule of its picture that a macroblock with these blocks breaks, with its word as the place. What it takes `progress_after` takes too;
+// a struct for these two calls would be longer.
 pub(crate) fn placed_fault(
     progress: Progress,
     blocks: Blocks,
     macroblock: Macroblock,
     words: &[u32],
-) -> Answer
+) -> Result<(), Fault>
     ensures { result ≡ judged (placed_rules progress blocks macroblock words.now) }
 {
-    let stage = progress.stage;
     let coding = progress.picture.coding;
-    let grid = progress.picture.grid;
     let at = progress.position;
-    let previous = progress.previous;
-    let case = macroblock.case;
     let flags = macroblock.flags;
-    let motion = macroblock_code::motion_of(case);
-    let kind = motion.kind;
-    let skip = !macroblock.skip | skip_permitted(coding, previous, kind, words);
+    let kind = macroblock_code::motion_of(macroblock.case).kind;
+    let in_sequence = progress.stage.in_group & (at.row < progress.picture.grid.rows);
+    let skip = !macroblock.skip | skip_permitted(progress, kind, words);
     let here = (macroblock.column == at.column) & (macroblock.row == at.row);
-    let a = answers_code::unless(
-        Answer::Accepted,
-        3,
-        0,
-        stage.in_group & (at.row < grid.rows),
-    );
-    let a = answers_code::unless(a, 5, 1, coding_permits(coding, kind));
-    let a = answers_code::unless(a, 11, 1, skip);
-    let a = answers_code::unless(a, 6, 2, here);
-    let a = answers_code::unless(a, 5, 4, conversion_permitted(coding, flags));
-    let a = answers_code::unless(a, 7, 4, flags_agree(stage, grid, at, flags));
-    let a = answers_code::unless(a, 9, 5, blocks.forward.in_range);
-    let a = answers_code::unless(a, 10, 5, blocks.forward.inside);
-    let a = answers_code::unless(a, 9, 6, blocks.backward.in_range);
-    let a = answers_code::unless(a, 10, 6, blocks.backward.inside);
-    let a = answers_code::unless(a, 9, 7, blocks.bottom.in_range);
-    answers_code::unless(a, 10, 7, blocks.bottom.inside)
+    rule(3, 0, in_sequence)
+        .and(rule(5, 1, coding_permits(coding, kind)))
+        .and(rule(11, 1, skip))
+        .and(rule(6, 2, here))
+        .and(rule(5, 4, conversion_permitted(coding, flags)))
+        .and(rule(7, 4, flags_agree(progress, flags)))
+        .and(rule(9, 5, blocks.forward.in_range))
+        .and(rule(10, 5, blocks.forward.inside))
+        .and(rule(9, 6, blocks.backward.in_range))
+        .and(rule(10, 6, blocks.backward.inside))
+        .and(rule(9, 7, blocks.bottom.in_range))
+        .and(rule(10, 7, blocks.bottom.inside))
 }

@@ -7,155 +7,106 @@ ghost use Rattle.placement.specs.Blocks.{field_of, forward_of, backward_of, bott
 
 use macroblock::{Case, Prediction};
 use picture::Codes;
-use placement::{Blocks, Predicted, Reference};
-use prediction::{Block, Extent, Grid, Position, Structure, Surface, Vector};
-use prediction_code::extents;
+use placement::{Blocks, Predicted};
+use prediction::{Extent, Structure, Vector};
+use prediction_code::{block_at, extents, vector_in_range};
 use progress::Progress;
 
-// The field that is chosen.
+// The field that is chosen. A function and no `From`: the type is of a crate of definitions, which declares no function.
 pub fn field_of(bottom: bool) -> Structure
     ensures { result ≡ field_of bottom }
 {
     if bottom {
-        return Structure::BottomField;
+        Structure::BottomField
+    } else {
+        Structure::TopField
     }
-    Structure::TopField
 }
 
-fn forward_of(case: Case) -> Reference
+#[tactic(auto, unfolding(placement::specs::Blocks::forward_of))]
+fn forward_of(case: Case) -> Option<(Structure, Vector)>
     ensures { result ≡ forward_of case }
 {
     match case {
-        Case::Intra => Reference::Unused,
-        Case::Inter(by) => match by {
-            Prediction::Forward(vector) => Reference::At(Structure::Frame, vector),
-            Prediction::Backward(_) => Reference::Unused,
-            Prediction::Both(vector, _) => Reference::At(Structure::Frame, vector),
-            Prediction::Field(vector, _, bottom, _) => Reference::At(field_of(bottom), vector),
-        },
+        Case::Inter(Prediction::Forward(vector) | Prediction::Both(vector, _)) => {
+            Some((Structure::Frame, vector))
+        }
+        Case::Inter(Prediction::Field(vector, _, bottom, _)) => Some((field_of(bottom), vector)),
+        _ => None,
     }
 }
 
-fn backward_of(case: Case) -> Reference
+#[tactic(auto, unfolding(placement::specs::Blocks::backward_of))]
+fn backward_of(case: Case) -> Option<(Structure, Vector)>
     ensures { result ≡ backward_of case }
 {
     match case {
-        Case::Intra => Reference::Unused,
-        Case::Inter(by) => match by {
-            Prediction::Forward(_) => Reference::Unused,
-            Prediction::Backward(vector) => Reference::At(Structure::Frame, vector),
-            Prediction::Both(_, vector) => Reference::At(Structure::Frame, vector),
-            Prediction::Field(_, _, _, _) => Reference::Unused,
-        },
+        Case::Inter(Prediction::Backward(vector) | Prediction::Both(_, vector)) => {
+            Some((Structure::Frame, vector))
+        }
+        _ => None,
     }
 }
 
-fn bottom_of(case: Case) -> Reference
+#[tactic(auto, unfolding(placement::specs::Blocks::bottom_of))]
+fn bottom_of(case: Case) -> Option<(Structure, Vector)>
     ensures { result ≡ bottom_of case }
 {
     match case {
-        Case::Intra => Reference::Unused,
-        Case::Inter(by) => match by {
-            Prediction::Forward(_) => Reference::Unused,
-            Prediction::Backward(_) => Reference::Unused,
-            Prediction::Both(_, _) => Reference::Unused,
-            Prediction::Field(_, vector, _, bottom) => Reference::At(field_of(bottom), vector),
-        },
+        Case::Inter(Prediction::Field(_, vector, _, bottom)) => Some((field_of(bottom), vector)),
+        _ => None,
     }
 }
 
-fn predicted_in(ranged: bool, block: Block) -> Predicted
-    ensures { result ≡ predicted_in ranged block }
+fn predicted_in(in_range: bool, block: Option<Extent>) -> Predicted
+    ensures { result ≡ predicted_in in_range block }
 {
-    match block {
-        Block::Outside => Predicted {
-            in_range: ranged,
-            inside: false,
-            extent: extents::empty(),
-        },
-        Block::Inside(extent) => Predicted {
-            in_range: ranged,
-            inside: true,
-            extent,
-        },
+    Predicted {
+        in_range,
+        inside: block.is_some(),
+        extent: block.unwrap_or(extents::empty()),
     }
 }
 
-// The block that a macroblock is predicted from in one reference.
-fn predicted(
-    surface: Surface,
-    grid: Grid,
-    position: Position,
-    codes: Codes,
-    reference: Reference,
-) -> Predicted
-    ensures { result ≡ predicted surface grid position codes reference }
+// The block that a macroblock after this progress is predicted from in one reference.
+#[tactic(auto, unfolding(placement::specs::Blocks::predicted))]
+fn predicted(progress: Progress, codes: Codes, reference: Option<(Structure, Vector)>) -> Predicted
+    ensures { result ≡ predicted progress.frame.surface progress.picture.grid progress.position codes reference }
 {
-    match reference {
-        Reference::Unused => Predicted {
+    let Some((structure, vector)) = reference else {
+        return Predicted {
             in_range: true,
             inside: true,
             extent: extents::empty(),
-        },
-        Reference::At(structure, vector) => {
-            let ranged = prediction_code::vector_in_range(structure, vector, codes.x, codes.y);
-            predicted_in(
-                ranged,
-                prediction_code::block_at(structure, surface, grid, position, vector),
-            )
-        }
-    }
+        };
+    };
+    let surface = progress.frame.surface;
+    let grid = progress.picture.grid;
+    let in_range = vector_in_range(structure, vector, codes.x, codes.y);
+    let block = block_at(structure, surface, grid, progress.position, vector);
+    predicted_in(in_range, block)
 }
 
-// A macroblock's own samples.
-fn own_extent(surface: Surface, grid: Grid, position: Position) -> Extent
-    ensures { result ≡ extent_in (block_at Frame surface grid position still) }
-{
-    match prediction_code::block_at(
-        Structure::Frame,
-        surface,
-        grid,
-        position,
-        Vector { x: 0, y: 0 },
-    ) {
-        Block::Outside => extents::empty(),
-        Block::Inside(extent) => extent,
-    }
-}
-
-// What the next macroblock touches if it is coded like this.
-pub(crate) fn blocks_of(progress: Progress, case: Case) -> Blocks
-    ensures { result ≡ blocks_of progress case }
+// The samples of the next macroblock itself.
+fn own_extent(progress: Progress) -> Extent
+    ensures { result ≡ extent_in (block_at Frame progress.frame.surface progress.picture.grid progress.position still) }
 {
     let surface = progress.frame.surface;
     let grid = progress.picture.grid;
-    let position = progress.position;
-    let own = own_extent(surface, grid, position);
-    let forward = predicted(
-        surface,
-        grid,
-        position,
-        progress.picture.forward,
-        forward_of(case),
-    );
-    let backward = predicted(
-        surface,
-        grid,
-        position,
-        progress.picture.backward,
-        backward_of(case),
-    );
-    let bottom = predicted(
-        surface,
-        grid,
-        position,
-        progress.picture.forward,
-        bottom_of(case),
-    );
+    let zero = Vector { x: 0, y: 0 };
+    block_at(Structure::Frame, surface, grid, progress.position, zero).unwrap_or(extents::empty())
+}
+
+// What the next macroblock touches if it is coded like this.
+#[tactic(auto, unfolding(placement::specs::Blocks::blocks_of))]
+pub(crate) fn blocks_of(progress: Progress, case: Case) -> Blocks
+    ensures { result ≡ blocks_of progress case }
+{
+    let picture = progress.picture;
     Blocks {
-        own,
-        forward,
-        backward,
-        bottom,
+        own: own_extent(progress),
+        forward: predicted(progress, picture.forward, forward_of(case)),
+        backward: predicted(progress, picture.backward, backward_of(case)),
+        bottom: predicted(progress, picture.forward, bottom_of(case)),
     }
 }

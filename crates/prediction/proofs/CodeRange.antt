@@ -1,12 +1,12 @@
 -- The range of an f code, for a component that is b - 32768.
 use mathlib.Core.Path.{◌≡◌, sym, ap, ap₂, ◌∙◌}
-use mathlib.Core.Bool.{Bool, true, ◌&&◌}
+use mathlib.Core.Bool.{true, ◌&&◌}
 use Prim.Native.Nat.{ℕ, ◌+◌, ◌*◌, ◌-◌, ◌^◌, ◌≤◌, ◌<◌}
-use native.Mathlib.Nat.{mul-le-mul, lt_of_lt_of_le}
+use native.Mathlib.Nat.{mul-le-mul}
 use native.Mathlib.Omega.{arith}
 use borrow.Author.Tests.{le-leb, lt-ltb}
 use lib.Dec.{leb, ltb}
-use lib.Pow.{pow_mono, shl_lt}
+use lib.Pow.{pow_mono}
 use lib.IntN.{ℤ, pos, neg_ℤ, sub_ℕ}
 use lib.Signed.{le_z, lt_z}
 use Rattle.prediction.specs.Ranges.{in_range}
@@ -30,14 +30,3 @@ module _ (size c b p : ℕ) (hs : 0 < size) (hb : b < 65536) (ep : p ≡ c - 1) 
   code_wide h =
       let l : 1 * 65536 ≤ size * 2 ^ p = mul-le-mul hs (pow_mono {i = 16} {j = p} h) in
       code_test ∙ ap₂ ◌&&◌ (le-leb 32768 (b + size * 2 ^ p) (omega arith)) (lt-ltb b (32768 + size * 2 ^ p) (omega arith))
-
-  -- with l for the limit as the code shifts it, and the outcome of the first half
-  pub code_by : (l : ℕ) → l ≡ size * 2 ^ p → (t : Bool) → leb 32768 (b + l) ≡ t → in_range size c (sub_ℕ b 32768) ≡ (t && ltb b (32768 + l))
-  code_by l e t h =
-      code_test
-      ∙ ap (λ (n : ℕ). leb 32768 (b + n) && ltb b (32768 + n)) (sym e)
-      ∙ ap (λ (u : Bool). u && ltb b (32768 + l)) h
-
--- the limit of a code, shifted, is small
-pub limit_lt : (size p : ℕ) → size < 256 → p < 16 → size * 2 ^ p < 8388608
-limit_lt size p hs hp = lt_of_lt_of_le (shl_lt 8 p hs) (pow_mono {i = 8 + p} {j = 23} (omega arith))

@@ -1,6 +1,6 @@
 -- What the definitions on ℤ say of a component that is b - 2k, in ℕ. The code has k = 16384.
 use mathlib.Core.Path.{◌≡◌, refl, sym, ap, ap₂, subst, ◌∙◌}
-use mathlib.Core.Bool.{Bool, true, ◌&&◌}
+use mathlib.Core.Bool.{true, ◌&&◌}
 use mathlib.Core.Logic.{◌⊎◌, inl, inr}
 use Prim.Native.Nat.{ℕ, suc, ◌+◌, ◌*◌, ◌-◌, ◌/◌, ◌%◌, ◌≤◌, ◌<◌}
 use native.Mathlib.Omega.{arith}
@@ -69,10 +69,6 @@ module _ (size place b k : ℕ) where
 
       zero-last : size * place + b / 2 + (size + b % 2) + 0 ≡ size * place + b / 2 + (size + b % 2)
       zero-last = omega arith
-
-  -- with the outcome of its first half
-  pub inside_by : (n : ℕ) (t : Bool) → leb k (size * place + b / 2) ≡ t → inside size place n (sub_ℕ b (2 * k)) ≡ (t && leb (size * place + b / 2 + (size + b % 2)) (size * n + k))
-  inside_by n t e = inside_is n ∙ ap (λ (u : Bool). u && leb (size * place + b / 2 + (size + b % 2)) (size * n + k)) e
 
   pub inside_means : (n : ℕ) → inside size place n (sub_ℕ b (2 * k)) ≡ true → (k ≤ size * place + b / 2) × (size * place + b / 2 + (size + b % 2) ≤ size * n + k)
   inside_means n t =

@@ -126,7 +126,3 @@ either false q t = inr t
 
 pub product_le : {a b : ℕ} (m n : ℕ) → a ≤ m → b ≤ n → a * b ≤ m * n
 product_le m n ha hb = mul-le-mul ha hb
-
--- the samples before a block, for any size and place of their types
-pub samples_le : {size place : ℕ} → size < 256 → place < 65536 → size * place ≤ 255 * 65535
-samples_le {size} {place} hs hp = product_le 255 65535 (omega arith) (omega arith)

@@ -17,7 +17,7 @@ use Rattle.prediction.specs.Extents.{empty_extent}
 use Rattle.prediction.specs.Addresses.{luma, address}
 use Rattle.prediction.specs.Structures.{half_rows, rows_in, row_of}
 use Rattle.prediction.specs.Blocks.{block_extent, start_of, last_of}
-use Rattle.prediction.specs.Lines.{limit_of, line_of, in_line, reach_of}
+use Rattle.prediction.specs.Lines.{in_line, reach_of}
 use Rattle.prediction.specs.declared.Structure.{Structure}
 use Rattle.prediction.specs.declared.Structure.TheVariants.{Frame, TopField, BottomField}
 use Rattle.prediction.specs.declared.Vector.{Vector}
@@ -75,10 +75,6 @@ unequal t = let z : ◌≡◌ {A = ℕ} 0 1 = cc in omega arith
 
 -- ---- as the code tests: r is b less low, and u the block's start, both around 2^32
 module _ (size : ℕ) (l : Line) (place b : ℕ) (hb : b < 65536) where
-  pub far : (r : ℕ) → l.low < 65536 → l.span < 65536 → r < 2 ^ 32 → (r + l.low) % 2 ^ 32 ≡ b → l.span < r → false ≡ in_line size l place (sub_ℕ b 32768)
-  far r hl hs hr e h =
-      same false (in_line size l place (sub_ℕ b 32768)) (λ t. absurd (unequal (sym t))) (λ t. absurd (let f = line_means size l place b t in omega arith))
-
   pub near : (r u : ℕ)
       → l.low < 65536
       → l.span < 65536
@@ -177,12 +173,15 @@ module _ (k : Structure) (s : Surface) (at : Position) (x y u v a b c d : ℕ) (
       (chroma_at 8 at.column x u c hx across (omega arith) ec)
       (chroma_at (half_rows k) at.row y v d hy ev (half_pos k).0 ed)))
 
--- a block starts in the picture where its half samples from the edge do not wrap
-pub start_test : (n b u : ℕ) → n ≤ 1048560 → b < 65536 → u < 2 ^ 32 → (u + 32768) % 2 ^ 32 ≡ 2 * n + b → leb u 16777216 ≡ leb 32768 (2 * n + b)
-start_test n b u hp hb hu s =
-    same (leb u 16777216) (leb 32768 (2 * n + b))
-    (λ t. let k = leb-true u 16777216 t in le-leb 32768 (2 * n + b) (omega arith))
-    (λ t. let k = leb-true 32768 (2 * n + b) t in le-leb u 16777216 (omega arith))
+-- ---- the reach of a word, by the test of where a block starts
+pub reach_is : (k : Structure) (s : Surface) (at : Position) (w : ℕ) (v : Vector) (t : Bool)
+    → v ≡ vector_of w
+    → t ≡ (le_z (pos 0) (first_of 16 at.column v.x) && le_z (pos 0) (first_of (rows_in k luma) at.row v.y))
+    → cond t (block_extent k s at v) empty_extent ≡ reach_of k s at w
+unfolding reach_of
+reach_is k s at w v t e h =
+    ap (λ (u : Bool). cond u (block_extent k s at v) empty_extent) h
+    ∙ ap (λ (z : Vector). cond (le_z (pos 0) (first_of 16 at.column z.x) && le_z (pos 0) (first_of (rows_in k luma) at.row z.y)) (block_extent k s at z) empty_extent) e
 
 -- ---- the reach of a word whose components are x - 32768 and y - 32768
 starts : (size place b : ℕ) → 32768 ≤ 2 * (size * place) + b → le_z (pos 0) (first_of size place (sub_ℕ b 32768)) ≡ true
@@ -240,18 +239,3 @@ limit_up size p = omega (arith, product_le {a = size} {b = 1} size (2 ^ p) (omeg
 
 pub limit_wide : (size p : ℕ) → 0 < size → 16 ≤ p → 32768 ≤ size * 2 ^ p
 limit_wide size p hs h = omega (arith, product_le {a = 1} {b = 65536} size (2 ^ p) hs (pow_mono {i = 16} {j = p} h))
-
-abbrev line : ℕ → ℕ → ℕ → Line
-line low span last = record { low = low; span = span; last = last }
-
-module _ (size n c p last : ℕ) (el : last ≡ n - 1) (ep : p ≡ c - 1) where
-  limit : size * 2 ^ p ≡ size * 2 ^ (c - 1)
-  limit = ap (λ (m : ℕ). size * 2 ^ m) ep
-
-  -- with l for the limit as the code has it, at most 32768
-  pub line_narrow : (l : ℕ) → l ≡ min 32768 (size * 2 ^ p) → line (32768 - l) (2 * l - 1) last ≡ line_of size n c
-  unfolding line_of
-  line_narrow l e =
-      let low : 32768 - l ≡ 32768 - limit_of size c = omega (arith, limit) in
-      let span : 2 * l - 1 ≡ 2 * limit_of size c - 1 = omega (arith, limit) in
-      ap₂ (λ (f : ℕ → Line) (m : ℕ). f m) (ap₂ line low span) el

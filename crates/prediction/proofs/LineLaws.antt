@@ -26,7 +26,7 @@ use Rattle.prediction.specs.declared.Grid.{Grid}
 use Rattle.prediction.specs.declared.Position.{Position}
 use Rattle.prediction.specs.declared.Extent.{Extent}
 use Rattle.prediction.specs.declared.Line.{Line}
-use Rattle.prediction.specs.declared.Block.TheVariants.{Outside, Inside}
+use Rattle.std.specs.Prelude.{Some, None}
 use Rattle.prediction.proofs.Integers.{split, both, product_le}
 use Rattle.prediction.proofs.Components.{bias_of, bias_lt, bias_back, inside_means, inside_holds}
 use Rattle.prediction.proofs.CodeRange.{code_test}
@@ -100,28 +100,28 @@ field_lines n c = refl
 
 -- ---- reach
 -- The reach of a block that lies inside is what the block touches.
-pub inside_reach : (k : Structure) (s : Surface) (g : Grid) (at : Position) (w : ℕ) → block_inside k g at (vector_of w) ≡ true → block_at k s g at (vector_of w) ≡ Inside (reach_of k s at w)
+pub inside_reach : (k : Structure) (s : Surface) (g : Grid) (at : Position) (w : ℕ) → block_inside k g at (vector_of w) ≡ true → block_at k s g at (vector_of w) ≡ Some (reach_of k s at w)
 unfolding block_at reach_of
 inside_reach k s g at w t =
     let v = vector_of w in
     let two = tests k g at v t in
     let x = both (le_z (pos 0) (first_of 16 at.column v.x)) _ two.0 in
     let y = both (le_z (pos 0) (first_of (rows_in k luma) at.row v.y)) _ two.1 in
-    ap (λ (u : Bool). cond u (Inside (block_extent k s at v)) Outside) t
-    ∙ ap (λ (u : Bool). Inside (cond u (block_extent k s at v) empty_extent)) (sym (ap₂ ◌&&◌ x.0 y.0))
+    ap (λ (u : Bool). cond u (Some (block_extent k s at v)) None) t
+    ∙ ap (λ (u : Bool). Some (cond u (block_extent k s at v) empty_extent)) (sym (ap₂ ◌&&◌ x.0 y.0))
 
 -- A vector that keeps the lines keeps its codes' ranges, and its block lies inside and touches its reach.
 pub in_lines : (k : Structure) (s : Surface) (g : Grid) (at : Position) (cx cy w : ℕ)
     → 0 < g.columns
     → 0 < g.rows
     → vector_in_lines k (line_in Frame g.columns cx) (line_in k g.rows cy) at.column at.row w ≡ true
-    → (vector_in_range k (vector_of w) cx cy ≡ true) × (block_at k s g at (vector_of w) ≡ Inside (reach_of k s at w))
+    → (vector_in_range k (vector_of w) cx cy ≡ true) × (block_at k s g at (vector_of w) ≡ Some (reach_of k s at w))
 in_lines k s g at cx cy w hx hy t =
     let two = both (vector_in_range k (vector_of w) cx cy) (block_inside k g at (vector_of w)) (sym (lines_exact k g at cx cy w hx hy) ∙ t) in
     (two.0, inside_reach k s g at w two.1)
 
 -- A macroblock's own samples are the reach of the zero word in the frame.
-pub still_reach : (s : Surface) (g : Grid) (at : Position) → at.column < g.columns → at.row < g.rows → block_at Frame s g at still ≡ Inside (reach_of Frame s at 0)
+pub still_reach : (s : Surface) (g : Grid) (at : Position) → at.column < g.columns → at.row < g.rows → block_at Frame s g at still ≡ Some (reach_of Frame s at 0)
 unfolding block_at vector_of
 still_reach s g at hx hy =
     let own = own_inside s g at hx hy in

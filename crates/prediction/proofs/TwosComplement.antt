@@ -1,14 +1,13 @@
 -- Two's complement at sixteen bits: the machine's reading of the bits is the definition's, and the two definitions undo
 -- each other; so a vector's word and a word's vector do.
 use mathlib.Core.Path.{◌≡◌, refl, sym, ap, ap₂, subst, ◌∙◌}
-use mathlib.Core.Bool.{true, false}
 use mathlib.Core.Logic.{◌⊎◌, inl, inr}
-use Prim.Native.Nat.{ℕ, suc, ◌-◌, ◌^◌, ◌<◌, ◌≤◌}
+use Prim.Native.Nat.{ℕ, ◌^◌, ◌<◌, ◌≤◌}
 use native.Mathlib.Omega.{arith}
 use borrow.Author.Rules.{sfits_of}
-use borrow.Author.Tests.{ltb-true, lt-ltb, le-ltb}
+use borrow.Author.Tests.{lt-ltb, le-ltb}
 use lib.IntN.{ℤ, pos, negsuc}
-use lib.Signed.{mag, lt_z}
+use lib.Signed.{mag}
 use mir.Syntax.{w16}
 use mir.Val.{to_z, of_z, SFits}
 use mir.Facts.{to_z-of_z, of_z-to_z, sfits_to_z}
@@ -39,18 +38,6 @@ signed_bits v f = sym (to_z_signed (bits16 v) (bits_lt v f)) ∙ ap (to_z w16) (
 
 pub bits_signed : (n : ℕ) → n < 65536 → bits16 (signed16 n) ≡ n
 bits_signed n h = sym (of_z_bits (signed16 n)) ∙ ap (of_z w16) (sym (to_z_signed n h)) ∙ of_z-to_z {w = w16} (record { fits = h })
-
--- the complement of a negative number is not negative
-pub complement : (v : ℤ) → SFits w16 v → lt_z v (pos 0) ≡ true → to_z w16 (65535 - of_z w16 v) ≡ pos (65535 - bits16 v)
-complement (pos n) f h = let no = ltb-true n 0 h in absurd (omega arith)
-complement (negsuc n) f h =
-    let e : 65535 - (65536 - suc n) ≡ n = omega (arith, f.sfits) in
-    let g : n ≡ 65535 - (65535 - n) = omega (arith, f.sfits) in
-    ap (to_z w16) e ∙ to_z-of_z {w = w16} {z = pos n} (record { sfits = f.sfits }) ∙ ap pos g
-
-pub not_negative : (v : ℤ) → lt_z v (pos 0) ≡ false → v ≡ pos (bits16 v)
-not_negative (pos n) h = refl
-not_negative (negsuc n) h = let z : ◌≡◌ {A = ℕ} 0 1 = cc in absurd (omega arith)
 
 -- a number that was held as bits
 pub read_back : (z : ℤ) → mag z < 32768 → to_z w16 (of_z w16 z) ≡ z

@@ -9,7 +9,7 @@ use Rattle.prediction.specs.Ranges.{in_range, vector_in_range}
 use Rattle.prediction.specs.Spans.{first_of, count_of, halved}
 use Rattle.prediction.specs.Addresses.{address}
 use Rattle.prediction.specs.Extents.{empty_extent, joined}
-use Rattle.prediction.specs.Blocks.{block_at, block_extent}
+use Rattle.prediction.specs.Blocks.{block_at, block_extent, Block}
 use Rattle.prediction.specs.Lines.{line_of, vector_in_lines, reach_of, floor_of}
 use Rattle.prediction.specs.declared.Structure.{Structure}
 use Rattle.prediction.specs.declared.Structure.TheVariants.{Frame, TopField, BottomField}
@@ -19,8 +19,7 @@ use Rattle.prediction.specs.declared.Line.{Line}
 use Rattle.prediction.specs.declared.Extent.{Extent}
 use Rattle.prediction.proofs.TwosComplement.{pair as vector}
 use Rattle.prediction.proofs.ExtentLaws.{between}
-use Rattle.prediction.specs.declared.Block.{Block}
-use Rattle.prediction.specs.declared.Block.TheVariants.{Outside, Inside}
+use Rattle.std.specs.Prelude.{Some, None}
 
 abbrev minus : ℕ → ℤ
 minus n = neg_ℤ (pos n)
@@ -87,7 +86,7 @@ abbrev answer_to : Vector → Block
 answer_to v = block_at Frame (record { pitch = 128; chroma_row = 16 }) (record { columns = 2; rows = 1 }) (record { column = 0; row = 0 }) v
 
 abbrev inside : ℕ → ℕ → Block
-inside first end = Inside (between first end)
+inside first end = Some (between first end)
 
 p8_to_p12 : map answer_to
     (vector (pos 0) (pos 0)
@@ -98,7 +97,7 @@ p8_to_p12 : map answer_to
     ∷ vector (minus 1) (pos 0)
     ∷ vector (pos 0) (pos 1)
     ∷ [])
-    ≡ inside 0 384 ∷ inside 0 753 ∷ inside 1 882 ∷ inside 512 896 ∷ Outside ∷ Outside ∷ Outside ∷ []
+    ≡ inside 0 384 ∷ inside 0 753 ∷ inside 1 882 ∷ inside 512 896 ∷ None ∷ None ∷ None ∷ []
 unfolding block_at block_extent joined address
 p8_to_p12 = refl
 
@@ -168,7 +167,7 @@ field_blocks : field_block TopField (surface 128 32) 0 0 (pos 0) (pos 0)
     ∷ field_block BottomField (surface 128 32) 0 1 (pos 0) (minus 17)
     ∷ block_at BottomField (surface 256 81) (record { columns = 3; rows = 5 }) (record { column = 2; row = 3 }) (vector (minus 5) (pos 7))
     ∷ []
-    ≡ inside 0 4208 ∷ inside 16 4224 ∷ inside 206 991 ∷ inside 144 993 ∷ inside 272 4480 ∷ Outside ∷ Outside ∷ inside 9085 25934 ∷ []
+    ≡ inside 0 4208 ∷ inside 16 4224 ∷ inside 206 991 ∷ inside 144 993 ∷ inside 272 4480 ∷ None ∷ None ∷ inside 9085 25934 ∷ []
 unfolding block_at block_extent joined address
 field_blocks = refl
 

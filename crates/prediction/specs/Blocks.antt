@@ -1,18 +1,20 @@
 -- A macroblock's block in a picture buffer: where it lies and which bytes it touches.
 -- To be believed: `Occupies` and `InPicture`. `block_at` is proved against them, by `block_exact` and `inside_exactly` (proofs/BlockLaws.antt).
-use Rattle.std.specs.Prelude.{ℕ, ◌+◌, ◌-◌, ◌*◌, ◌≡◌, Bool, cond, ◌&&◌, ℤ, pos, nat_abs, ◌≤ℤ◌, ◌<ℤ◌}
+use Rattle.std.specs.Prelude.{ℕ, ◌+◌, ◌-◌, ◌*◌, ◌≡◌, Bool, cond, ◌&&◌, ℤ, pos, nat_abs, ◌≤ℤ◌, ◌<ℤ◌, Some, None, Option}
 use Rattle.prediction.specs.declared.Structure.{Structure}
 use Rattle.prediction.specs.declared.Vector.{Vector}
 use Rattle.prediction.specs.declared.Surface.{Surface}
 use Rattle.prediction.specs.declared.Grid.{Grid}
 use Rattle.prediction.specs.declared.Position.{Position}
 use Rattle.prediction.specs.declared.Extent.{Extent}
-use Rattle.prediction.specs.declared.Block.{Block}
-use Rattle.prediction.specs.declared.Block.TheVariants.{Outside, Inside}
 use Rattle.prediction.specs.Spans.{first_of, end_of, inside, halved, Covers}
 use Rattle.prediction.specs.Addresses.{Plane, luma, cb, cr, sample_byte}
 use Rattle.prediction.specs.Structures.{columns_in, rows_in, row_of}
 use Rattle.prediction.specs.Extents.{joined}
+
+-- A block that a vector points at: what it touches, if it is in the picture.
+abbrev pub Block : Type 0
+Block = Option Extent
 
 -- Chroma moves by the halved component.
 abbrev pub component_in : Plane → ℤ → ℤ
@@ -70,4 +72,4 @@ block_extent k s at v = joined (plane_extent k s at v luma) (joined (plane_exten
 
 -- The answer for a block: rule 10's `Outside`, or what it touches.
 unfoldable pub block_at : Structure → Surface → Grid → Position → Vector → Block
-block_at k s g at v = cond (block_inside k g at v) (Inside (block_extent k s at v)) Outside
+block_at k s g at v = cond (block_inside k g at v) (Some (block_extent k s at v)) None

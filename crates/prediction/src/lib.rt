@@ -18,21 +18,21 @@ pub struct Vector {
 }
 
 // A picture buffer's layout: bytes from row to row, and the row at which chroma starts (document 01's C).
-#[derive(Clone, Copy)]
+#[derive(Clone, Copy, Default)]
 pub struct Surface {
     pub pitch: u32,
     pub chroma_row: u16,
 }
 
 // The picture's size in macroblocks (document 01's W and H).
-#[derive(Clone, Copy)]
+#[derive(Clone, Copy, Default)]
 pub struct Grid {
     pub columns: u16,
     pub rows: u16,
 }
 
 // A macroblock's place in the picture (document 01's X and Y).
-#[derive(Clone, Copy)]
+#[derive(Clone, Copy, Default)]
 pub struct Position {
     pub column: u16,
     pub row: u16,
@@ -44,13 +44,6 @@ pub struct Position {
 pub struct Extent {
     pub first: u64,
     pub end: u64,
-}
-
-// A block that a vector points at: outside the picture, or inside and what it touches.
-#[derive(Clone, Copy)]
-pub enum Block {
-    Outside,
-    Inside(Extent),
 }
 
 // What vectors may be in one line of blocks, a row or a column of macroblocks: a component plus 32768 from low to low + span,

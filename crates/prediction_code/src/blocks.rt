@@ -1,130 +1,106 @@
 // A macroblock's block in a picture buffer.
-ghost use Rattle.std.specs.Prelude.{◌≡◌, ◌+◌, ◌*◌, ◌<◌, ◌≤◌};
+ghost use Rattle.std.specs.Prelude.{◌≡◌, ◌&&◌, pos, is_some, IfSome};
+ghost use Rattle.std.specs.Int.Signed.{le_z};
 ghost use Rattle.std.proofs.Math.IntN.{sub_ℕ};
 ghost use Rattle.prediction.specs.Addresses.{luma};
+ghost use Rattle.prediction.specs.Spans.{first_of};
+ghost use Rattle.prediction.specs.Structures.{half_rows, rows_in};
 ghost use Rattle.prediction.specs.Blocks.{block_extent, block_at};
-ghost use Rattle.prediction.specs.Structures.{rows_in};
+ghost use Rattle.prediction.specs.declared.Surface.{Surface};
 
 use crate::addresses::address;
-use crate::structures::luma_rows;
-use crate::{extents, spans};
-use prediction::{Block, Extent, Grid, Position, Structure, Surface, Vector};
+use crate::spans;
+use crate::spans::Span;
+use crate::structures::{half_rows, luma_rows, row_of};
+use prediction::{Extent, Grid, Position, Structure, Surface, Vector};
 
-// The first byte of the block that the vector (x - 32768, y - 32768) displaces, where it does not start before the picture. The first Cr
-// sample stands behind the first Cb sample, and a luma sample in an earlier row of tiles before both.
-pub(crate) fn block_first(
-    structure: Structure,
-    pitch: u32,
-    chroma_row: u16,
-    column: u16,
-    row: u16,
-    x: u32,
-    y: u32,
-) -> u64
-    requires { (x < 65536) × (32768 ≤ 32 * column + x) × (y < 65536) × (32768 ≤ 2 * (rows_in structure luma * row) + y) }
-    ensures { result ≡ (block_extent structure (record { pitch = pitch; chroma_row = chroma_row }) (record { column = column; row = row }) (record { x = sub_ℕ x 32768; y = sub_ℕ y 32768 })).first }
-{
-    let u = spans::column_from(column, x);
-    let v = spans::row_from(structure, row, y);
-    let luma_row = spans::first_row(structure, v);
-    let luma = address(pitch, u / 2, luma_row);
-    let cb_row = chroma_row as u32 + spans::first_chroma_row(structure, v, y);
-    if (32 <= pitch) & (luma_row < cb_row / 32 * 32) {
-        return luma;
-    }
-    let cb = address(pitch, 2 * spans::chroma_first(u, x), cb_row);
-    extents::lower(luma, cb)
+// The block that a vector displaces from a macroblock's position, in rows of a structure, where it does not start before the picture.
+#[derive(Clone, Copy)]
+pub(crate) struct Displaced {
+    pub structure: Structure,
+    pub across: Span,
+    pub down: Span,
+    ghost columns: { across.half ≡ 8 },
+    ghost rows: { down.half ≡ half_rows structure },
 }
 
-// The end of the same block. The last Cb sample stands before the last Cr sample, and a luma sample in an earlier row of tiles before both.
-pub(crate) fn block_end(
-    structure: Structure,
-    pitch: u32,
-    chroma_row: u16,
-    column: u16,
-    row: u16,
-    x: u32,
-    y: u32,
-) -> u64
-    requires { (x < 65536) × (32768 ≤ 32 * column + x) × (y < 65536) × (32768 ≤ 2 * (rows_in structure luma * row) + y) }
-    ensures { result ≡ (block_extent structure (record { pitch = pitch; chroma_row = chroma_row }) (record { column = column; row = row }) (record { x = sub_ℕ x 32768; y = sub_ℕ y 32768 })).end }
-{
-    let u = spans::column_from(column, x);
-    let v = spans::row_from(structure, row, y);
-    let cr_row = chroma_row as u32 + spans::last_chroma_row(structure, v, y);
-    let cr = address(pitch, 2 * spans::chroma_last(8, u, x) + 1, cr_row);
-    let luma_row = spans::last_row(structure, v);
-    if (32 <= pitch) & (luma_row < cr_row / 32 * 32) {
-        return cr + 1;
+impl Displaced {
+    // None where it starts before the picture.
+    #[inline(always)]
+    pub(crate) fn new(structure: Structure, position: Position, vector: Vector) -> Option<Displaced>
+        ensures starts { is_some result ≡ (le_z (pos 0) (first_of 16 position.column vector.x) && le_z (pos 0) (first_of (rows_in structure luma) position.row vector.y)) }
+        ensures is { IfSome result (λ d. (s : Surface) → block_extent d.structure s (record { column = d.across.place; row = d.down.place }) (record { x = sub_ℕ d.across.b 32768; y = sub_ℕ d.down.b 32768 }) ≡ block_extent structure s position vector) }
+    {
+        let across = Span::new(8, position.column, spans::biased(vector.x))?;
+        let down = Span::new(half_rows(structure), position.row, spans::biased(vector.y))?;
+        Some(Displaced {
+            structure,
+            across,
+            down,
+        })
     }
-    let luma = address(pitch, (u + 1) / 2 + 15, luma_row);
-    extents::join_ends(luma, cr) + 1
-}
 
-// The end again, for the one place at which the structure is no constant: what has one call site is put there whatever its size.
-pub(crate) fn field_block_end(
-    structure: Structure,
-    pitch: u32,
-    chroma_row: u16,
-    column: u16,
-    row: u16,
-    x: u32,
-    y: u32,
-) -> u64
-    requires { (x < 65536) × (32768 ≤ 32 * column + x) × (y < 65536) × (32768 ≤ 2 * (rows_in structure luma * row) + y) }
-    ensures { result ≡ (block_extent structure (record { pitch = pitch; chroma_row = chroma_row }) (record { column = column; row = row }) (record { x = sub_ℕ x 32768; y = sub_ℕ y 32768 })).end }
-{
-    let u = spans::column_from(column, x);
-    let v = spans::row_from(structure, row, y);
-    let cr_row = chroma_row as u32 + spans::last_chroma_row(structure, v, y);
-    let cr = address(pitch, 2 * spans::chroma_last(8, u, x) + 1, cr_row);
-    let luma_row = spans::last_row(structure, v);
-    if (32 <= pitch) & (luma_row < cr_row / 32 * 32) {
-        return cr + 1;
+    // Its first byte. The first Cr sample stands behind the first Cb sample, and a luma sample in an earlier row of tiles before both.
+    pub(crate) fn first(&self, surface: Surface) -> u64
+        ensures { result ≡ (block_extent self.now.structure surface (record { column = self.now.across.place; row = self.now.down.place }) (record { x = sub_ℕ self.now.across.b 32768; y = sub_ℕ self.now.down.b 32768 })).first }
+    {
+        let pitch = surface.pitch;
+        let luma_row = row_of(self.structure, self.down.first());
+        let luma = address(pitch, self.across.first(), luma_row);
+        let cb_row = surface.chroma_row as u32 + row_of(self.structure, self.down.chroma_first());
+        if (32 <= pitch) & (luma_row < cb_row / 32 * 32) {
+            return luma;
+        }
+        luma.min(address(pitch, 2 * self.across.chroma_first(), cb_row))
     }
-    let luma = address(pitch, (u + 1) / 2 + 15, luma_row);
-    extents::join_ends(luma, cr) + 1
-}
 
-// What the block touches: both its ends.
-pub(crate) fn block_extent(
-    structure: Structure,
-    surface: Surface,
-    column: u16,
-    row: u16,
-    x: u32,
-    y: u32,
-) -> Extent
-    requires { (x < 65536) × (32768 ≤ 32 * column + x) × (y < 65536) × (32768 ≤ 2 * (rows_in structure luma * row) + y) }
-    ensures { result ≡ block_extent structure surface (record { column = column; row = row }) (record { x = sub_ℕ x 32768; y = sub_ℕ y 32768 }) }
-{
-    let pitch = surface.pitch;
-    let chroma_row = surface.chroma_row;
-    let first = block_first(structure, pitch, chroma_row, column, row, x, y);
-    let end = block_end(structure, pitch, chroma_row, column, row, x, y);
-    Extent { first, end }
+    // Its end. The last Cb sample stands before the last Cr sample, and a luma sample in an earlier row of tiles before both.
+    #[inline(always)]
+    pub(crate) fn end(&self, surface: Surface) -> u64
+        ensures { result ≡ (block_extent self.now.structure surface (record { column = self.now.across.place; row = self.now.down.place }) (record { x = sub_ℕ self.now.across.b 32768; y = sub_ℕ self.now.down.b 32768 })).end }
+    {
+        let pitch = surface.pitch;
+        let cr_row = surface.chroma_row as u32 + row_of(self.structure, self.down.chroma_last());
+        let cr = address(pitch, 2 * self.across.chroma_last() + 1, cr_row);
+        let luma_row = row_of(self.structure, self.down.last());
+        if (32 <= pitch) & (luma_row < cr_row / 32 * 32) {
+            return cr + 1;
+        }
+        cr.max(address(pitch, self.across.last(), luma_row)) + 1
+    }
+
+    // What it touches: both its ends.
+    fn extent(&self, surface: Surface) -> Extent
+        ensures { result ≡ block_extent self.now.structure surface (record { column = self.now.across.place; row = self.now.down.place }) (record { x = sub_ℕ self.now.across.b 32768; y = sub_ℕ self.now.down.b 32768 }) }
+    {
+        let first = self.first(surface);
+        let end = self.end(surface);
+        Extent { first, end }
+    }
 }
 
 // The block that a vector displaces from a macroblock's position, in rows of a structure. The macroblock's own samples are the frame's block of
 // vector (0, 0).
+#[tactic(auto, unfolding(prediction::specs::Blocks::block_at))]
 pub fn block_at(
     structure: Structure,
     surface: Surface,
     grid: Grid,
     position: Position,
     vector: Vector,
-) -> Block
+) -> Option<Extent>
     ensures { result ≡ block_at structure surface grid position vector }
 {
-    let vx = vector.x;
-    let vy = vector.y;
-    let x = spans::biased(vx);
-    let y = spans::biased(vy);
+    let x = spans::biased(vector.x);
+    let y = spans::biased(vector.y);
     if !spans::inside(16, position.column, grid.columns, x) {
-        return Block::Outside;
+        return None;
     }
     if !spans::inside(luma_rows(structure), position.row, grid.rows, y) {
-        return Block::Outside;
+        return None;
     }
-    Block::Inside(block_extent(structure, surface, position.column, position.row, x, y))
+    match Displaced::new(structure, position, vector) {
+        Some(block) => Some(block.extent(surface)),
+        None => None,
+    }
 }

@@ -12,8 +12,6 @@ mod structures;
 mod vectors;
 
 pub use blocks::block_at;
-pub use lines::{
-    field_end, first_with, floor_of, line_of, reach_end, reach_first, vector_in_lines,
-};
+pub use lines::{first_with, floor_of, line_of, reach_end, reach_first, vector_in_lines};
 pub use ranges::vector_in_range;
 pub use vectors::{vector_of, word_of};

@@ -7,26 +7,17 @@ use crate::spans;
 use crate::structures::luma_rows;
 use prediction::{Structure, Vector};
 
-// The exponent of a code: one less, 0 for code 0.
-pub(crate) fn exponent(code: u8) -> u8
-    ensures { result ≡ code - 1 }
-{
-    if code == 0 {
-        return 0;
-    }
-    code - 1
-}
-
 // Whether the component b - 32768 lies in the range of a code.
-fn in_range(size: u8, code: u8, b: u32) -> bool
-    requires { (0 < size) × (b < 65536) }
+fn in_range(size: u8, code: u8, b: u16) -> bool
+    requires { 0 < size }
     ensures { result ≡ in_range size code (sub_ℕ b 32768) }
 {
-    let power = exponent(code);
+    let power = code.saturating_sub(1);
     if 16 <= power {
         return true;
     }
     let limit = (size as u32) << power;
+    let b = b as u32;
     if b + limit < 32768 {
         return false;
     }
@@ -34,13 +25,12 @@ fn in_range(size: u8, code: u8, b: u32) -> bool
 }
 
 // Whether both components of a vector lie in the ranges of their codes.
+#[tactic(auto, unfolding(prediction::specs::Ranges::vector_in_range), using(prediction::proofs::TwosComplement::read_back))]
 pub fn vector_in_range(structure: Structure, vector: Vector, x_code: u8, y_code: u8) -> bool
     ensures { result ≡ vector_in_range structure vector x_code y_code }
 {
-    let x = vector.x;
-    let y = vector.y;
-    if !in_range(16, x_code, spans::biased(x)) {
+    if !in_range(16, x_code, spans::biased(vector.x)) {
         return false;
     }
-    in_range(luma_rows(structure), y_code, spans::biased(y))
+    in_range(luma_rows(structure), y_code, spans::biased(vector.y))
 }

@@ -1,52 +1,28 @@
-// Vectors in their words.
+// Vectors in their words. Functions and no `From`: the type is of a crate of definitions, which declares no function.
 ghost use Rattle.std.specs.Prelude.{◌≡◌};
-ghost use Rattle.prediction.specs.Vectors.{signed16, bits16, vector_of, word_of};
+ghost use Rattle.prediction.specs.Vectors.{vector_of, word_of};
 
 use fields::Halves;
 use prediction::Vector;
 
-// The number of sixteen bits in two's complement.
-fn signed(half: u16) -> i16
-    ensures { result ≡ signed16 half }
-{
-    if half < 32768 {
-        half as i16
-    } else {
-        !((65535 - half) as i16)
-    }
-}
-
-// The sixteen bits of a number.
-fn unsigned(component: i16) -> u16
-    ensures { result ≡ bits16 component }
-{
-    if component < 0 {
-        let below = (!component) as u16;
-        65535 - below
-    } else {
-        component as u16
-    }
-}
-
 // The vector of a word.
+#[tactic(auto, unfolding(prediction::specs::Vectors::vector_of), using(prediction::proofs::TwosComplement::to_z_signed, prediction::proofs::TwosComplement::read_back))]
 pub fn vector_of(word: u32) -> Vector
     ensures { result ≡ vector_of word }
 {
     let halves = fields_code::halves_of(word);
-    let low = halves.low;
-    let high = halves.high;
-    let x = signed(low);
-    let y = signed(high);
-    Vector { x, y }
+    Vector {
+        x: halves.low.cast_signed(),
+        y: halves.high.cast_signed(),
+    }
 }
 
 // The word of a vector.
+#[tactic(auto, unfolding(prediction::specs::Vectors::word_of), using(prediction::proofs::TwosComplement::of_z_bits, prediction::proofs::TwosComplement::read_back))]
 pub fn word_of(vector: Vector) -> u32
     ensures { result ≡ word_of vector }
 {
-    let x = vector.x;
-    let y = vector.y;
-    let low = unsigned(x);
-    let high = unsigned(y);
+    let low = vector.x.cast_unsigned();
+    let high = vector.y.cast_unsigned();
     fields_code::word_of_halves(Halves { low, high })
 }

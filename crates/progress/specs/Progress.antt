@@ -1,12 +1,14 @@
 -- How far a batch has come.
 -- To be believed: that nothing has come at first.
-use Rattle.std.specs.Prelude.{true, false}
+use Rattle.std.specs.Prelude.{true, false, Ok, Err, Result}
+use Rattle.answers.specs.declared.Fault.{Fault}
 use Rattle.prediction.specs.Extents.{empty_extent}
-use Rattle.answers.specs.declared.Answer.{Answer}
-use Rattle.answers.specs.declared.Answer.TheVariants.{Accepted, Refused}
+use Rattle.answers.specs.Answers.{Accepted, Answer}
 use Rattle.progress.specs.declared.Progress.{Progress}
-use Rattle.progress.specs.declared.Verdict.{Verdict}
-use Rattle.progress.specs.declared.Verdict.TheVariants.{Next, Stop}
+
+-- What a whole command comes to: the progress after it, or the first rule that it breaks, with its word as the place.
+abbrev pub Verdict : Type 0
+Verdict = Result Progress Fault
 
 -- Nothing has come, nothing is open and no byte is touched.
 unfoldable pub fresh : Progress
@@ -38,10 +40,10 @@ fresh =
 
 -- Document 01's number and place of a verdict: 0 where there is a progress after it. The place is a word, of the command or of the batch.
 abbrev pub verdict_answer : Verdict → Answer
-verdict_answer (Next p) = Accepted
-verdict_answer (Stop n place) = Refused n place
+verdict_answer (Ok p) = Accepted
+verdict_answer (Err f) = Err f
 
 -- A command that was judged, and the progress after it if it keeps its rules.
 abbrev pub concluded : Answer → Progress → Verdict
-concluded Accepted p = Next p
-concluded (Refused n word) p = Stop n word
+concluded Accepted p = Ok p
+concluded (Err f) p = Err f

@@ -6,7 +6,7 @@ use prediction::{Extent, Position};
 
 // Which commands have come. A group is open from its SLICEGROUP to LastMbInSG, a slice from its first macroblock to its last;
 // group_start holds from SLICEGROUP to the group's first macroblock.
-#[derive(Clone, Copy)]
+#[derive(Clone, Copy, Default)]
 pub struct Stage {
     pub surfaced: bool,
     pub pictured: bool,
@@ -18,8 +18,9 @@ pub struct Stage {
 }
 
 // What a rule reads of the macroblock before: its kind (0 for intra, and before the first) and words 5 to 8.
-#[derive(Clone, Copy)]
+#[derive(Clone, Copy, Default, PartialEq, Eq)]
 pub struct Previous {
+    // A number and no enum: `stored_previous` keeps what memory holds, legal or not.
     pub kind: u8,
     pub five: u32,
     pub six: u32,
@@ -47,9 +48,9 @@ pub struct Progress {
     pub extents: Extents,
 }
 
-// What a whole command comes to: the progress after it, or the number and the word of the first rule that it breaks.
+// What words came to: how many of them were taken, as whole commands, and how far the batch has come with them.
 #[derive(Clone, Copy)]
-pub enum Verdict {
-    Next(Progress),
-    Stop(u8, u64),
+pub struct Taken {
+    pub progress: Progress,
+    pub used: usize,
 }

@@ -8,10 +8,9 @@ use native.Mathlib.Omega.{arith}
 use borrow.Author.Tests.{eqb-true}
 use lib.Dec.{T, eqb, ltb}
 use lib.ListN.{length}
-use Rattle.answers.specs.Answers.{number_of, judged}
+use Rattle.answers.specs.Answers.{number_of, judged, Accepted, refused}
 use Rattle.answers.specs.Lending.{then_room}
 use Rattle.answers.specs.Numbers.{OneOf, all_among}
-use Rattle.answers.specs.declared.Answer.TheVariants.{Accepted, Refused}
 use Rattle.answers.proofs.NumberLaws.{is_listed, table_listed, room_listed, by_0}
 use Rattle.headers.specs.Headers.{macroblock_header}
 use Rattle.headers.specs.Words.{word_at}
@@ -28,7 +27,7 @@ unfolding read_fault command_rules field_rules vector_rules
 read_fault_lem words = by (eqb (length words) 0) refl (eqb (word_at words 0) macroblock_header) (ltb (length words) 9)
   where
     by : (none : Bool) → eqb (length words) 0 ≡ none → (macroblock few : Bool)
-        → OneOf (read_places words) (cond none (Refused 1 0) (cond (not macroblock) (Refused 2 0) (cond few (Refused 1 (length words)) (judged (command_rules alone words)))))
+        → OneOf (read_places words) (cond none (refused 1 0) (cond (not macroblock) (refused 2 0) (cond few (refused 1 (length words)) (judged (command_rules alone words)))))
     by true e macroblock few = (omega arith, inr (inl (refl, sym (eqb-true (length words) 0 e))))
     by false e false few = (omega arith, is_listed 2 0 (read_places words) tt)
     by false e true true = (omega arith, inr (inl (refl, refl)))
@@ -54,7 +53,7 @@ pub write_numbers : (bytes room : List ℕ) → OneOf (write_places bytes) (writ
 unfolding write_answer record_fault
 write_numbers bytes room = by (eqb (length bytes) record_length)
   where
-    by : (whole : Bool) → OneOf (cond whole record_places ((15, 0) ∷ [])) (then_room (cond whole (judged (record_rules bytes)) (Refused 15 0)) 9 room)
+    by : (whole : Bool) → OneOf (cond whole record_places ((15, 0) ∷ [])) (then_room (cond whole (judged (record_rules bytes)) (refused 15 0)) 9 room)
     by true = room_listed record_places (judged (record_rules bytes)) 9 room tt tt (table_listed record_places (record_rules bytes) tt (rules_listed bytes))
     by false = (omega arith, inl (refl, refl))
 

@@ -2,7 +2,7 @@
 use mathlib.Core.Path.{◌≡◌, refl, sym, ap, ap₂, subst, ◌∙◌}
 use mathlib.Core.Bool.{Bool, true, false, cond, not, ◌&&◌}
 use mathlib.Core.List.{List, [], ◌∷◌, ◌++◌}
-use Prim.Native.Nat.{ℕ, zero, suc, ◌+◌, ◌^◌, ◌<◌, ◌≤◌}
+use Prim.Native.Nat.{ℕ, zero, suc, ◌^◌, ◌<◌, ◌≤◌}
 use native.Mathlib.Omega.{arith}
 use borrow.Author.Tests.{eqb-true, eqb-false, eq-eqb, leb-true, le-leb}
 use lib.Dec.{T, eqb, leb}
@@ -18,8 +18,7 @@ use Rattle.fields.proofs.LittleEndian.{bytes_back, number_back}
 use Rattle.fields.proofs.Packing.{packed_field, packed_is}
 use Rattle.prediction.specs.Vectors.{vector_of}
 use Rattle.prediction.proofs.TwosComplement.{vector_word_back}
-use Rattle.answers.specs.Answers.{judged, holds_at}
-use Rattle.answers.specs.declared.Answer.TheVariants.{Accepted}
+use Rattle.answers.specs.Answers.{judged, holds_at, Accepted}
 use Rattle.answers.proofs.Judging.{all_hold, none_broken, hold_both, hold_each, both_accept, rule_kept}
 use Rattle.macroblock.specs.Cases.{motion, motion_of, case_of}
 use Rattle.macroblock.specs.Legal.{CaseFits, Legal}

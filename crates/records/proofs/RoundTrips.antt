@@ -14,9 +14,8 @@ use Rattle.answers.specs.Lending.{lent_after, room_for}
 use Rattle.fields.specs.Bytes.{elements, Bytes}
 use Rattle.fields.specs.Word.{bits, is_set}
 use Rattle.fields.proofs.Elements.{elements_take}
-use Rattle.answers.specs.Answers.{judged, next}
-use Rattle.answers.specs.declared.Answer.{Answer}
-use Rattle.answers.specs.declared.Answer.TheVariants.{Accepted, Refused}
+use Rattle.answers.specs.Answers.{judged, next, Accepted, refused, Answer}
+use Rattle.std.specs.Prelude.{Err}
 use Rattle.answers.proofs.Judging.{no_accepted, rule_kept}
 use Rattle.macroblock.specs.Cases.{motion_of, case_of, is_field}
 use Rattle.headers.specs.Headers.{macroblock_header}
@@ -43,7 +42,7 @@ read_kept ws e = by (eqb (length ws) 0) (eqb (word_at ws 0) macroblock_header) (
         → eqb (length ws) 0 ≡ x
         → eqb (word_at ws 0) macroblock_header ≡ y
         → ltb (length ws) 9 ≡ z
-        → cond x (Refused 1 0) (cond (not y) (Refused 2 0) (cond z (Refused 1 (length ws)) (judged (command_rules alone ws)))) ≡ Accepted
+        → cond x (refused 1 0) (cond (not y) (refused 2 0) (cond z (refused 1 (length ws)) (judged (command_rules alone ws)))) ≡ Accepted
         → (word_at ws 0 ≡ macroblock_header) × (9 ≤ length ws) × (judged (command_rules alone ws) ≡ Accepted)
     by true y z ex ey ez e = absurd (no_accepted e)
     by false false z ex ey ez e = absurd (no_accepted e)
@@ -167,7 +166,7 @@ module _ (bs : List ℕ) (h : Bytes bs) (e : record_fault bs ≡ Accepted) where
   unfolding record_fault
   kept_length = by (eqb (length bs) 24) refl e
     where
-      by : (x : Bool) → eqb (length bs) 24 ≡ x → cond x (judged (record_rules bs)) (Refused 15 0) ≡ Accepted → (length bs ≡ 24) × (judged (record_rules bs) ≡ Accepted)
+      by : (x : Bool) → eqb (length bs) 24 ≡ x → cond x (judged (record_rules bs)) (refused 15 0) ≡ Accepted → (length bs ≡ 24) × (judged (record_rules bs) ≡ Accepted)
       by true ex e = (eqb-true (length bs) 24 ex, e)
       by false ex e = absurd (no_accepted e)
 
@@ -196,13 +195,13 @@ module _ (fault : Answer) (needed : ℕ) (new room : List ℕ) where
   fits : next fault (room_for needed room) ≡ Accepted → (fault ≡ Accepted) × (needed ≤ length room)
   fits e = by fault refl e
     where
-      room_for_lem : (x : Bool) → ltb (length room) needed ≡ x → cond x (Refused 14 needed) Accepted ≡ Accepted → needed ≤ length room
+      room_for_lem : (x : Bool) → ltb (length room) needed ≡ x → cond x (refused 14 needed) Accepted ≡ Accepted → needed ≤ length room
       room_for_lem true ex e = absurd (no_accepted e)
       room_for_lem false ex e = ltb-false (length room) needed ex
 
       by : (f : Answer) → fault ≡ f → next f (room_for needed room) ≡ Accepted → (fault ≡ Accepted) × (needed ≤ length room)
       by Accepted ef e = (ef, room_for_lem (ltb (length room) needed) refl e)
-      by (Refused n p) ef e = absurd (no_accepted e)
+      by (Err f) ef e = absurd (no_accepted e)
 
   front : next fault (room_for needed room) ≡ Accepted → length new ≡ needed → take needed (lent_after (next fault (room_for needed room)) new room) ≡ new
   front e n = ap (λ (a : Answer). take needed (lent_after a new room)) e ∙ take_at new (drop (length new) room) needed n

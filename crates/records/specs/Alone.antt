@@ -2,14 +2,12 @@
 -- To be believed: what reading and writing alone answer and leave, and which record is legal.
 use Rattle.std.specs.Prelude.{ℕ, cond, not, List, ◌≡◌, eqb, ltb, length, replicate}
 use Rattle.answers.specs.Lending.{lent_after, then_room}
-use Rattle.answers.specs.Answers.{judged}
+use Rattle.answers.specs.Answers.{judged, Accepted, refused, Answer}
 use Rattle.headers.specs.Headers.{macroblock_header}
 use Rattle.macroblock.specs.Legal.{Words}
 use Rattle.headers.specs.Words.{word_at}
 use Rattle.macroblock.specs.Macroblocks.{macroblock_of, words_of}
 use Rattle.macroblock.specs.Rules.{command_rules, alone}
-use Rattle.answers.specs.declared.Answer.{Answer}
-use Rattle.answers.specs.declared.Answer.TheVariants.{Accepted, Refused}
 use Rattle.records.specs.Layout.{record_length}
 use Rattle.records.specs.Records.{record_of, macroblock_in}
 use Rattle.records.specs.RecordRules.{record_rules}
@@ -18,9 +16,9 @@ use Rattle.records.specs.RecordRules.{record_rules}
 -- a command alone, which "may be of either sort" (document 02's R-6); "14 follows all these".
 unfoldable pub read_fault : List ℕ → Answer
 read_fault words =
-    cond (eqb (length words) 0) (Refused 1 0)
-    (cond (not (eqb (word_at words 0) macroblock_header)) (Refused 2 0)
-    (cond (ltb (length words) 9) (Refused 1 (length words)) (judged (command_rules alone words))))
+    cond (eqb (length words) 0) (refused 1 0)
+    (cond (not (eqb (word_at words 0) macroblock_header)) (refused 2 0)
+    (cond (ltb (length words) 9) (refused 1 (length words)) (judged (command_rules alone words))))
 
 unfoldable pub read_answer : List ℕ → List ℕ → Answer
 read_answer words room = then_room (read_fault words) record_length room
@@ -30,7 +28,7 @@ read_room words room = lent_after (read_answer words room) (record_of (macrobloc
 
 -- "A length other than 24 gets 15 at byte 0", else the first bad byte; then 14.
 unfoldable pub record_fault : List ℕ → Answer
-record_fault bytes = cond (eqb (length bytes) record_length) (judged (record_rules bytes)) (Refused 15 0)
+record_fault bytes = cond (eqb (length bytes) record_length) (judged (record_rules bytes)) (refused 15 0)
 
 unfoldable pub write_answer : List ℕ → List ℕ → Answer
 write_answer bytes room = then_room (record_fault bytes) 9 room

@@ -3,8 +3,7 @@
 -- To be believed: bytes, numbers and places are the papers' own.
 use Rattle.std.specs.Prelude.{ℕ, List, [], ◌∷◌, ◌++◌, map, set, take, replicate}
 use Rattle.answers.specs.Examples.{Example, keeping, breaking, keeping_each, breaking_each}
-use Rattle.answers.specs.declared.Answer.{Answer}
-use Rattle.answers.specs.declared.Answer.TheVariants.{Accepted, Refused}
+use Rattle.answers.specs.Answers.{Accepted, refused, Answer}
 use Rattle.headers.specs.Examples.{WordReading, reading, upwards}
 use Rattle.macroblock.specs.Examples.{intra_command, skipped_command, forward_words, backward_words, both_words, forward_command, backward_command, both_command, field_words, field_command}
 
@@ -153,22 +152,22 @@ lent given room answer = record { given = given; room = room; answer = answer }
 -- follows all these"
 unfoldable pub read_examples : List Lent
 read_examples =
-    lent [] 24 (Refused 1 0)
-    ∷ lent (0x73490007 ∷ []) 24 (Refused 1 1)
-    ∷ lent (take 8 intra_command) 24 (Refused 1 8)
-    ∷ lent (0 ∷ []) 24 (Refused 2 0)
-    ∷ lent (set (take 8 intra_command) 0 0x73490006) 24 (Refused 2 0)
-    ∷ lent (set intra_command 0 0x73430006) 24 (Refused 2 0)
+    lent [] 24 (refused 1 0)
+    ∷ lent (0x73490007 ∷ []) 24 (refused 1 1)
+    ∷ lent (take 8 intra_command) 24 (refused 1 8)
+    ∷ lent (0 ∷ []) 24 (refused 2 0)
+    ∷ lent (set (take 8 intra_command) 0 0x73490006) 24 (refused 2 0)
+    ∷ lent (set intra_command 0 0x73430006) 24 (refused 2 0)
     ∷ lent intra_command 24 Accepted
     ∷ lent (intra_command ++ 1 ∷ []) 24 Accepted
     ∷ lent (set intra_command 4 0xC7000001) 24 Accepted
     ∷ lent (skipped_command 0x304 both_words) 25 Accepted
-    ∷ lent intra_command 23 (Refused 14 24)
-    ∷ lent intra_command 0 (Refused 14 24)
-    ∷ lent (set intra_command 4 0xC5000000) 0 (Refused 5 4)
-    ∷ lent (set (set intra_command 4 0xC5000000) 5 1) 24 (Refused 5 4)
-    ∷ lent (set (set (skipped_command 0x104 forward_words) 3 0x41) 4 0x40000001) 24 (Refused 11 1)
-    ∷ lent (set (set intra_command 1 0x3A05) 3 0) 24 (Refused 4 1)
+    ∷ lent intra_command 23 (refused 14 24)
+    ∷ lent intra_command 0 (refused 14 24)
+    ∷ lent (set intra_command 4 0xC5000000) 0 (refused 5 4)
+    ∷ lent (set (set intra_command 4 0xC5000000) 5 1) 24 (refused 5 4)
+    ∷ lent (set (set (skipped_command 0x104 forward_words) 3 0x41) 4 0x40000001) 24 (refused 11 1)
+    ∷ lent (set (set intra_command 1 0x3A05) 3 0) 24 (refused 4 1)
     ∷ []
 
 -- "One command read alone may be of either sort": bit 15 and type 04h are taken; "bit 14 = 1 and bits 1:0 = 1", else 4; "a skipped type 04h
@@ -180,40 +179,40 @@ either_sort =
     ∷ lent field_command 24 Accepted
     ∷ lent (set field_command 1 0x1234C401) 24 Accepted
     ∷ lent (set field_command 4 0x4A050009) 24 Accepted
-    ∷ lent field_command 23 (Refused 14 24)
-    ∷ lent (set forward_command 1 0x12348100) 23 (Refused 14 24)
-    ∷ lent (set field_command 1 0x400) 24 (Refused 4 1)
-    ∷ lent (set field_command 1 0x401) 24 (Refused 4 1)
-    ∷ lent (set field_command 1 0x4400) 24 (Refused 4 1)
-    ∷ lent (set field_command 1 0x4403) 24 (Refused 4 1)
-    ∷ lent (set forward_command 1 0x4101) 24 (Refused 4 1)
-    ∷ lent (set intra_command 1 0x7A00) 24 (Refused 4 1)
-    ∷ lent (skipped_command 0x8104 forward_words) 24 (Refused 4 1)
-    ∷ lent (skipped_command 0x4405 field_words) 24 (Refused 11 1)
-    ∷ lent (skipped_command 0x4405 field_words) 0 (Refused 11 1)
-    ∷ lent (skipped_command 0xC405 field_words) 24 (Refused 4 1)
-    ∷ lent (set field_command 4 0x4A020009) 24 (Refused 4 4)
-    ∷ lent (set field_command 4 0x4A080009) 24 (Refused 4 4)
-    ∷ lent (set forward_command 4 0x4A010009) 24 (Refused 4 4)
-    ∷ lent (set both_command 4 0x4A040009) 24 (Refused 4 4)
-    ∷ lent (set field_command 6 0xFFFF0001) 24 (Refused 8 6)
-    ∷ lent (set field_command 8 0xFFFF0001) 24 (Refused 8 8)
+    ∷ lent field_command 23 (refused 14 24)
+    ∷ lent (set forward_command 1 0x12348100) 23 (refused 14 24)
+    ∷ lent (set field_command 1 0x400) 24 (refused 4 1)
+    ∷ lent (set field_command 1 0x401) 24 (refused 4 1)
+    ∷ lent (set field_command 1 0x4400) 24 (refused 4 1)
+    ∷ lent (set field_command 1 0x4403) 24 (refused 4 1)
+    ∷ lent (set forward_command 1 0x4101) 24 (refused 4 1)
+    ∷ lent (set intra_command 1 0x7A00) 24 (refused 4 1)
+    ∷ lent (skipped_command 0x8104 forward_words) 24 (refused 4 1)
+    ∷ lent (skipped_command 0x4405 field_words) 24 (refused 11 1)
+    ∷ lent (skipped_command 0x4405 field_words) 0 (refused 11 1)
+    ∷ lent (skipped_command 0xC405 field_words) 24 (refused 4 1)
+    ∷ lent (set field_command 4 0x4A020009) 24 (refused 4 4)
+    ∷ lent (set field_command 4 0x4A080009) 24 (refused 4 4)
+    ∷ lent (set forward_command 4 0x4A010009) 24 (refused 4 4)
+    ∷ lent (set both_command 4 0x4A040009) 24 (refused 4 4)
+    ∷ lent (set field_command 6 0xFFFF0001) 24 (refused 8 6)
+    ∷ lent (set field_command 8 0xFFFF0001) 24 (refused 8 8)
     ∷ []
 
 -- "A length other than 24 gets 15 at byte 0"; the first of several bad bytes; a command has nine words; kind 4 and a dct type in byte 13 are
 -- R-7's, and no record yet
 unfoldable pub write_examples : List Lent
 write_examples =
-    lent [] 9 (Refused 15 0)
-    ∷ lent (take 23 p1_record) 9 (Refused 15 0)
-    ∷ lent (p1_record ++ 0 ∷ []) 9 (Refused 15 0)
-    ∷ lent (set (take 23 p1_record) 6 9) 0 (Refused 15 0)
+    lent [] 9 (refused 15 0)
+    ∷ lent (take 23 p1_record) 9 (refused 15 0)
+    ∷ lent (p1_record ++ 0 ∷ []) 9 (refused 15 0)
+    ∷ lent (set (take 23 p1_record) 6 9) 0 (refused 15 0)
     ∷ lent p1_record 9 Accepted
     ∷ lent p1_record 10 Accepted
-    ∷ lent p1_record 8 (Refused 14 9)
-    ∷ lent (set p1_record 23 1) 8 (Refused 15 23)
-    ∷ lent (set (set (set p1_record 6 4) 7 9) 11 0) 9 (Refused 15 6)
-    ∷ lent (set p1_record 6 4) 9 (Refused 15 6)
-    ∷ lent (inter_record 4 forward_bytes) 9 (Refused 15 6)
-    ∷ lent (set (inter_record 1 forward_bytes) 13 4) 9 (Refused 15 13)
+    ∷ lent p1_record 8 (refused 14 9)
+    ∷ lent (set p1_record 23 1) 8 (refused 15 23)
+    ∷ lent (set (set (set p1_record 6 4) 7 9) 11 0) 9 (refused 15 6)
+    ∷ lent (set p1_record 6 4) 9 (refused 15 6)
+    ∷ lent (inter_record 4 forward_bytes) 9 (refused 15 6)
+    ∷ lent (set (inter_record 1 forward_bytes) 13 4) 9 (refused 15 13)
     ∷ []

@@ -1,14 +1,13 @@
 -- The first of some bytes that is not zero.
-use mathlib.Core.Path.{◌≡◌, refl, sym, ap, ap₂, subst, ◌∙◌}
+use mathlib.Core.Path.{◌≡◌, refl, sym, ap, subst, ◌∙◌}
 use mathlib.Core.Bool.{Bool, true, false, not, ◌&&◌}
 use mathlib.Core.List.{List}
-use Prim.Native.Nat.{ℕ, zero, suc, ◌+◌, ◌-◌, ◌<◌}
+use Prim.Native.Nat.{ℕ, zero, suc, ◌+◌, ◌<◌}
 use native.Mathlib.Omega.{arith}
-use borrow.Author.Tests.{eq-eqb, ne_eqb}
-use lib.Dec.{T}
+use borrow.Author.Tests.{ne_eqb}
+use lib.Dec.{T, eqb}
 use lib.ListN.{get_or}
-use Rattle.answers.specs.Answers.{judged, before}
-use Rattle.answers.specs.declared.Answer.TheVariants.{Accepted, Refused}
+use Rattle.answers.specs.Answers.{Answer, rule, answer_by, judged, earlier, before, Accepted, refused}
 use Rattle.answers.proofs.Judging.{after_place, in_order}
 use Rattle.records.specs.RecordRules.{zero_bytes}
 use Rattle.answers.specs.Tables.{none_before, ascending}
@@ -30,17 +29,14 @@ rising bs i zero = tt
 rising bs i (suc k) =
     both (none_before 15 i (zero_bytes bs (suc i) k)) (ascending (zero_bytes bs (suc i) k)) (later bs i (suc i) k (omega arith)) (rising bs (suc i) k)
 
--- the three ways of the code's turn, over how many bytes are left
-pub none_left : (bs : List ℕ) (i n : ℕ) → n ≡ 0 → Accepted ≡ judged (zero_bytes bs i n)
-none_left bs i n e = ap (λ (k : ℕ). judged (zero_bytes bs i k)) (sym e)
-
-pub zero_stops : (bs : List ℕ) (i n : ℕ) → (n ≡ 0 → ⊥) → (get_or bs i 0 ≡ 0 → ⊥) → Refused 15 i ≡ judged (zero_bytes bs i n)
+-- the two ways of the code's turn, with n bytes left of which m come behind this one
+pub zero_stops : (bs : List ℕ) (i n : ℕ) → (n ≡ 0 → ⊥) → (get_or bs i 0 ≡ 0 → ⊥) → refused 15 i ≡ judged (zero_bytes bs i n)
 zero_stops bs i zero d h = absurd (d refl)
 zero_stops bs i (suc k) d h = sym (in_order (zero_bytes bs i (suc k)) (rising bs i (suc k)) ∙ simp (ne_eqb (get_or bs i 0) 0 h))
 
-pub zero_passes : (bs : List ℕ) (i n : ℕ) → (n ≡ 0 → ⊥) → get_or bs i 0 ≡ 0 → judged (zero_bytes bs (i + 1) (n - 1)) ≡ judged (zero_bytes bs i n)
-zero_passes bs i zero d h = absurd (d refl)
-zero_passes bs i (suc k) d h =
+pub zero_passes : (bs : List ℕ) (i n m : ℕ) → n ≡ suc m → answer_by (rule 15 i (eqb (get_or bs i 0) 0)) ≡ Accepted
+    → judged (zero_bytes bs (i + 1) m) ≡ judged (zero_bytes bs i n)
+zero_passes bs i n m e h =
     let up : i + 1 ≡ suc i = omega arith in
-    let down : suc k - 1 ≡ k = omega arith in
-    ap₂ (λ (x y : ℕ). judged (zero_bytes bs x y)) up down ∙ sym (simp (eq-eqb (get_or bs i 0) 0 h))
+    ap (λ (x : ℕ). judged (zero_bytes bs x m)) up
+    ∙ sym (ap (λ (x : ℕ). judged (zero_bytes bs i x)) e ∙ ap (λ (x : Answer). earlier x (judged (zero_bytes bs (suc i) m))) h)

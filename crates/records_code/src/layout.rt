@@ -3,20 +3,20 @@ ghost use Rattle.std.specs.Prelude.{◌≡◌, cond, eqb};
 ghost use Rattle.fields.specs.Word.{packed};
 ghost use Rattle.records.specs.Records.{flag_fields, flags_of, recorded_kind, recorded_motion, record_of, macroblock_in};
 
-use crate::numbers;
+use crate::numbers::*;
+use fields_code::{bytes16, bytes32, flag_of, is_set, with_flag};
 use macroblock::{Flags, Macroblock, Motion};
 
 // The flags as the byte that holds them, and back.
 fn flags_byte(flags: Flags) -> u8
     ensures { result ≡ packed (flag_fields flags) }
 {
-    let to5 = fields_code::with_bits(0, 5, 5, fields_code::flag_of(flags.no_skip_conversion));
-    let to4 = fields_code::with_bits(to5, 4, 4, fields_code::flag_of(flags.clamp));
-    let to3 = fields_code::with_bits(to4, 3, 3, fields_code::flag_of(flags.last_in_group));
-    let to2 = fields_code::with_bits(to3, 2, 2, fields_code::flag_of(flags.first_in_group));
-    let to1 = fields_code::with_bits(to2, 1, 1, fields_code::flag_of(flags.last_in_slice));
-    let to0 = fields_code::with_bits(to1, 0, 0, fields_code::flag_of(flags.first_in_slice));
-    to0 as u8
+    let to5 = with_flag(0, 5, flags.no_skip_conversion);
+    let to4 = with_flag(to5, 4, flags.clamp);
+    let to3 = with_flag(to4, 3, flags.last_in_group);
+    let to2 = with_flag(to3, 2, flags.first_in_group);
+    let to1 = with_flag(to2, 1, flags.last_in_slice);
+    with_flag(to1, 0, flags.first_in_slice) as u8
 }
 
 fn flags_of(byte: u8) -> Flags
@@ -24,12 +24,12 @@ fn flags_of(byte: u8) -> Flags
 {
     let word = byte as u32;
     Flags {
-        first_in_slice: fields_code::is_set(word, 0),
-        last_in_slice: fields_code::is_set(word, 1),
-        first_in_group: fields_code::is_set(word, 2),
-        last_in_group: fields_code::is_set(word, 3),
-        clamp: fields_code::is_set(word, 4),
-        no_skip_conversion: fields_code::is_set(word, 5),
+        first_in_slice: is_set(word, 0),
+        last_in_slice: is_set(word, 1),
+        first_in_group: is_set(word, 2),
+        last_in_group: is_set(word, 3),
+        clamp: is_set(word, 4),
+        no_skip_conversion: is_set(word, 5),
     }
 }
 
@@ -37,34 +37,30 @@ fn flags_of(byte: u8) -> Flags
 fn recordable_kind(kind: u8) -> u8
     ensures { result ≡ cond (eqb kind 4) 1 kind }
 {
-    if kind == 4 {
-        return 1;
-    }
-    kind
+    if kind == 4 { 1 } else { kind }
 }
 
 // The record of a macroblock, as far as it has room.
 pub(crate) fn record_of(macroblock: Macroblock) -> [u8; 24]
     ensures { result ≡ record_of macroblock }
 {
-    let case = macroblock.case;
-    let motion = macroblock_code::motion_of(case);
+    let motion = macroblock_code::motion_of(macroblock.case);
+    // Both are made before the array: made where they are put, they took eight to eleven instructions more a record.
     let kind = recordable_kind(motion.kind);
-    let skip = fields_code::flag_of(macroblock.skip) as u8;
     let flags = flags_byte(macroblock.flags);
     let mut record = [0; 24];
-    record[numbers::KIND] = kind;
-    record[numbers::SKIP] = skip;
-    record[numbers::PATTERN] = macroblock.pattern;
-    record[numbers::MAX_SIZE] = macroblock.max_size;
-    record[numbers::TARGET_SIZE] = macroblock.target_size;
-    record[numbers::QUANTISER] = macroblock.quantiser;
-    record[numbers::FLAGS] = flags;
-    numbers::put32(&mut record, numbers::BACKWARD, motion.backward);
-    numbers::put32(&mut record, numbers::FORWARD, motion.forward);
-    numbers::put16(&mut record, numbers::UPPER, macroblock.upper);
-    numbers::put16(&mut record, numbers::ROW, macroblock.row);
-    numbers::put16(&mut record, numbers::COLUMN, macroblock.column);
+    record[KIND] = kind;
+    record[SKIP] = flag_of(macroblock.skip) as u8;
+    record[PATTERN] = macroblock.pattern;
+    record[MAX_SIZE] = macroblock.max_size;
+    record[TARGET_SIZE] = macroblock.target_size;
+    record[QUANTISER] = macroblock.quantiser;
+    record[FLAGS] = flags;
+    put(&mut record, BACKWARD, &bytes32(motion.backward));
+    put(&mut record, FORWARD, &bytes32(motion.forward));
+    put(&mut record, UPPER, &bytes16(macroblock.upper));
+    put(&mut record, ROW, &bytes16(macroblock.row));
+    put(&mut record, COLUMN, &bytes16(macroblock.column));
     record
 }
 
@@ -72,23 +68,17 @@ pub(crate) fn record_of(macroblock: Macroblock) -> [u8; 24]
 fn recorded_kind(number: u8) -> u8
     ensures { result ≡ recorded_kind number }
 {
-    if number <= 3 {
-        return number;
-    }
-    0
+    if number <= 3 { number } else { 0 }
 }
 
 // The kind and the vectors of a record.
 fn motion_in(bytes: &[u8]) -> Motion
     ensures { result ≡ recorded_motion bytes.now }
 {
-    let kind = recorded_kind(numbers::number8_at(bytes, numbers::KIND));
-    let forward = numbers::number32_at(bytes, numbers::FORWARD);
-    let backward = numbers::number32_at(bytes, numbers::BACKWARD);
     Motion {
-        kind,
-        forward,
-        backward,
+        kind: recorded_kind(byte_at(bytes, KIND)),
+        forward: number32_at(bytes, FORWARD),
+        backward: number32_at(bytes, BACKWARD),
         bottom: 0,
         top_from_bottom: false,
         bottom_from_bottom: false,
@@ -96,22 +86,21 @@ fn motion_in(bytes: &[u8]) -> Motion
 }
 
 // The macroblock of a record, legal or not.
+#[tactic(auto, unfolding(records::specs::Records::macroblock_in))]
 pub(crate) fn macroblock_in(bytes: &[u8]) -> Macroblock
     ensures { result ≡ macroblock_in bytes.now }
 {
-    let case = macroblock_code::case_of(motion_in(bytes));
-    let flags = flags_of(numbers::number8_at(bytes, numbers::FLAGS));
     Macroblock {
-        column: numbers::number16_at(bytes, numbers::COLUMN),
-        row: numbers::number16_at(bytes, numbers::ROW),
-        upper: numbers::number16_at(bytes, numbers::UPPER),
-        case,
-        skip: numbers::number8_at(bytes, numbers::SKIP) == 1,
+        column: number16_at(bytes, COLUMN),
+        row: number16_at(bytes, ROW),
+        upper: number16_at(bytes, UPPER),
+        case: macroblock_code::case_of(motion_in(bytes)),
+        skip: byte_at(bytes, SKIP) == 1,
         dct_type: false,
-        pattern: numbers::number8_at(bytes, numbers::PATTERN),
-        max_size: numbers::number8_at(bytes, numbers::MAX_SIZE),
-        target_size: numbers::number8_at(bytes, numbers::TARGET_SIZE),
-        quantiser: numbers::number8_at(bytes, numbers::QUANTISER),
-        flags,
+        pattern: byte_at(bytes, PATTERN),
+        max_size: byte_at(bytes, MAX_SIZE),
+        target_size: byte_at(bytes, TARGET_SIZE),
+        quantiser: byte_at(bytes, QUANTISER),
+        flags: flags_of(byte_at(bytes, FLAGS)),
     }
 }

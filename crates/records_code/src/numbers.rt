@@ -1,7 +1,7 @@
 // Bytes and numbers of a record.
-ghost use Rattle.std.specs.Prelude.{◌≡◌, ◌≤◌, get_or};
+ghost use Rattle.std.specs.Prelude.{◌≡◌, ◌≤◌, ◌+◌, length, get_or};
 ghost use Rattle.std.proofs.lemmas.List.Edits.{sets};
-ghost use Rattle.fields.specs.Bytes.{bytes_of, number_in, elements};
+ghost use Rattle.fields.specs.Bytes.{number_in, elements};
 
 // The first byte of each part; specs/Layout.antt has them with their counts.
 pub(crate) const COLUMN: usize = 0;
@@ -30,20 +30,15 @@ pub(crate) const FORWARD: usize = 16;
 
 pub(crate) const BACKWARD: usize = 20;
 
-// A byte, 0 where there is none.
+// A byte, 0 where there is none; and so the number in one byte.
 pub(crate) fn byte_at(bytes: &[u8], i: usize) -> u8
-    ensures { result ≡ get_or bytes.now i 0 }
+    ensures byte { result ≡ get_or bytes.now i 0 }
+    ensures number { result ≡ number_in (elements bytes.now i 1) }
 {
-    if i < bytes.len() { bytes[i] } else { 0 }
+    bytes.get(i).copied().unwrap_or(0)
 }
 
-// The number in one, two or four bytes.
-pub(crate) fn number8_at(bytes: &[u8], i: usize) -> u8
-    ensures { result ≡ number_in (elements bytes.now i 1) }
-{
-    byte_at(bytes, i)
-}
-
+// The number in two or four bytes. One function for both would need a loop and a cast, and would be longer than the two.
 pub(crate) fn number16_at(bytes: &[u8], i: usize) -> u16
     requires { i ≤ 24 }
     ensures { result ≡ number_in (elements bytes.now i 2) }
@@ -64,21 +59,10 @@ pub(crate) fn number32_at(bytes: &[u8], i: usize) -> u32
     fields_code::number32(b0, b1, b2, b3)
 }
 
-// Puts a number of two or four bytes into a record.
-pub(crate) fn put16(bytes: &mut [u8; 24], i: usize, n: u16)
-    requires { i ≤ 22 }
-    ensures { bytes.new ≡ sets bytes.old i (bytes_of 2 n) }
+// Puts a part into a record, from byte i on.
+pub(crate) fn put(bytes: &mut [u8; 24], i: usize, part: &[u8])
+    requires { i + length part.now ≤ 24 }
+    ensures { bytes.new ≡ sets bytes.old i part.now }
 {
-    let two = fields_code::bytes16(n);
-    bytes[i] = two[0];
-    bytes[i + 1] = two[1];
-}
-
-pub(crate) fn put32(bytes: &mut [u8; 24], i: usize, n: u32)
-    requires { i ≤ 20 }
-    ensures { bytes.new ≡ sets bytes.old i (bytes_of 4 n) }
-{
-    let halves = fields_code::halves_of(n);
-    put16(bytes, i, halves.low);
-    put16(bytes, i + 2, halves.high);
+    bytes[i..i + part.len()].copy_from_slice(part);
 }

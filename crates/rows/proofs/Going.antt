@@ -8,7 +8,7 @@ use native.Mathlib.Nat.{add-zero, add_assoc}
 use native.Mathlib.Omega.{arith}
 use borrow.Author.Tests.{lt-ltb}
 use lib.ListN.{length, take, drop, length-take, length-drop}
-use lib.Seq.{take-add, get_or-drop, get_or-take}
+use lib.Seq.{take-add}
 use Rattle.lists.proofs.Slices.{same_part}
 use Rattle.fields.specs.Word.{bits, is_set}
 use Rattle.prediction.specs.Extents.{joined}
@@ -18,8 +18,7 @@ use Rattle.prediction.proofs.LineLaws.{own_along}
 use Rattle.prediction.specs.declared.Structure.{Structure}
 use Rattle.headers.specs.Headers.{macroblock_header}
 use Rattle.headers.specs.Words.{word_at}
-use Rattle.answers.specs.Answers.{judged}
-use Rattle.answers.specs.declared.Answer.TheVariants.{Accepted}
+use Rattle.answers.specs.Answers.{judged, Accepted}
 use Rattle.progress.specs.declared.Progress.{Progress}
 use Rattle.placement.specs.Placing.{macroblock_rules}
 use Rattle.placement.specs.Progressing.{position_after, stage_after, macroblock_next}
@@ -27,7 +26,7 @@ use Rattle.rows.specs.Rows.{Follow, TakenFrom, previous_in, own_in, after_row, A
 use Rattle.rows.specs.Steps.{place_in, reach_in, Found}
 use Rattle.rows.specs.Touching.{command_at, reached, AllFit, across_of, down_of, touched_after, forward_points, backward_points, forward_after, backward_after, Seen}
 use Rattle.rows.specs.Words.{due_bits}
-use Rattle.rows.specs.declared.Taken.{Taken}
+use Rattle.progress.specs.declared.Taken.{Taken}
 use Rattle.rows.proofs.Keeping.{accepted}
 use Rattle.rows.proofs.Taking.{found_comes, next_is}
 use Rattle.rows.proofs.TouchedLaws.{after_next, fit_more}
@@ -223,16 +222,13 @@ module _ (p : Progress) (ws : List ℕ) (column due was at f b : ℕ) (row : Ope
 pub count_on : (p : Progress) (ws : List ℕ) (column due was at f b : ℕ) (row : OpenRow p) (left : column < p.picture.grid.columns)
     (g : Going p ws column f b at) (d : Due p ws g.k due was) (f' b' : ℕ) (room : at + 9 ≤ length ws)
     (found : Found p column f b (take (at + 9 - at) (drop at ws)) due (take (at - was) (drop was ws)) f' b')
-    → (four due' : ℕ) → four ≡ word_at ws (at + 4) → bits four 26 26 ≡ 0 → due' ≡ due_bits (is_set (bits four 31 31)) false
+    → (four due' : ℕ) → four ≡ word_at (take (at + 9 - at) (drop at ws)) 4 → bits four 26 26 ≡ 0 → due' ≡ due_bits (is_set (bits four 31 31)) false
     → Due p ws (go_on p ws column due was at f b row left g d f' b' room found).k due' at
 unfolding go_on
 count_on p ws column due was at f b row left g d f' b' room found four due' ef eg ed =
-    let same : four ≡ word_at (command_at ws g.k) 4 = ef ∙ there in
+    let nine : at + 9 - at ≡ 9 = omega arith in
+    let same : four ≡ word_at (command_at ws g.k) 4 = ef ∙ ap (λ (c : List ℕ). word_at c 4) (same_part ws nine g.at_is) in
     inr (g.k, refl, g.at_is, ap (λ (x : ℕ). bits x 26 26) (sym same) ∙ eg, ed ∙ ap (λ (x : ℕ). due_bits (is_set (bits x 31 31)) false) same)
-  where
-    there : word_at ws (at + 4) ≡ word_at (command_at ws g.k) 4
-    there =
-        sym (get_or-take 9 (drop (9 * g.k) ws) 4 0 (omega arith) ∙ get_or-drop (9 * g.k) ws 4 0 ∙ ap (λ (x : ℕ). word_at ws (x + 4)) (sym g.at_is))
 
 -- What is taken in the end.
 pub taken_from : (p : Progress) (ws : List ℕ) (column at f b : ℕ) (r : Taken) → at ≤ length ws → Going p ws column f b at → AfterRow p column at ws r → TakenFrom p ws r
@@ -257,13 +253,28 @@ taken_from p ws column at f b r room g a =
         ∙ ap₂ (λ (x : ℕ) (y : List ℕ). after_row p x (forward_after p ws (at / 9)) (backward_after p ws (at / 9)) y) (sym last) (sym (same_part ws nine start))
         ∙ sym (a.some some)
 
--- What the loop keeps.
-pub record Row (p : Progress) (ws : List ℕ) (limit column due f b was at : ℕ) : Type 0 where
-  pub within : column ≤ limit
-  pub behind : was ≤ at
+-- What the loop keeps, where the words before word `at` are used: the last command begins nine words before.
+pub record Row (p : Progress) (ws : List ℕ) (column due f b at : ℕ) : Type 0 where
   pub room : at ≤ length ws
   pub going : Going p ws column f b at
-  pub due_next : Due p ws going.k due was
+  pub due_next : Due p ws going.k due (at - 9)
+
+-- One more command is taken.
+module _ (p : Progress) (ws : List ℕ) {column due f b at : ℕ} (open_row : OpenRow p) (inside : column < p.picture.grid.columns) (row : Row p ws column due f b at)
+    (f' b' : ℕ) (room : at + 9 ≤ length ws) (found : Found p column f b (take (at + 9 - at) (drop at ws)) due (take (at - (at - 9)) (drop (at - 9) ws)) f' b') where
+  pub row_behind : Going p ws (column + 1) f' b' (at + 9)
+  row_behind = go_on p ws column due (at - 9) at f b open_row inside row.going row.due_next f' b' room found
+
+  pub row_on : (four due' : ℕ) → four ≡ word_at (take (at + 9 - at) (drop at ws)) 4 → bits four 26 26 ≡ 0 → due' ≡ due_bits (is_set (bits four 31 31)) false
+      → Row p ws (column + 1) due' f' b' (at + 9)
+  unfolding row_behind
+  row_on four due' ef eg ed =
+      let last : at ≡ at + 9 - 9 = omega arith in
+      record {
+        room = room;
+        going = row_behind;
+        due_next = subst (λ (was : ℕ). Due p ws row_behind.k due' was) last (count_on p ws column due (at - 9) at f b open_row inside row.going row.due_next f' b' room found four due' ef eg ed);
+      }
 
 pub nothing : (p : Progress) (ws : List ℕ) → TakenFrom p ws (record { progress = p; used = 0 })
 unfolding flatten

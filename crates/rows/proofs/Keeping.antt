@@ -12,8 +12,7 @@ use Rattle.lists.proofs.Booleans.{both_true, and_left, and_right, not_and}
 use Rattle.fields.specs.Word.{bits, with_bits, is_set, flag, has_bits, zero_bits}
 use Rattle.fields.proofs.Fields.{field_kept}
 use Rattle.headers.specs.Words.{word_at}
-use Rattle.answers.specs.Answers.{judged}
-use Rattle.answers.specs.declared.Answer.TheVariants.{Accepted}
+use Rattle.answers.specs.Answers.{judged, Accepted}
 use Rattle.answers.proofs.Judging.{none_broken}
 use Rattle.macroblock.specs.Cases.{motion, motion_of, case_of, is_field, vector_words}
 use Rattle.macroblock.specs.Macroblocks.{is_intra, kind_in, flags_in, macroblock_of, intra_type}

@@ -3,7 +3,7 @@ use mathlib.Core.Bool.{Bool, true, false, cond, not, ◌&&◌, ◌||◌}
 use mathlib.Core.List.{List, [], ◌∷◌}
 use mathlib.Core.Logic.{◌⊎◌, inl, inr}
 use mathlib.Core.Path.{◌≡◌, refl, sym, ap, ap₂, subst, subst₂, ◌∙◌}
-use Prim.Native.Nat.{ℕ, ◌+◌, ◌-◌, ◌<◌, max}
+use Prim.Native.Nat.{ℕ, ◌+◌, ◌<◌, max}
 use native.Mathlib.Omega.{arith}
 use lib.Dec.{T, eqb, ltb}
 use borrow.Author.Tests.{eq-eqb, eqb-true}
@@ -13,7 +13,7 @@ use Rattle.prediction.specs.Extents.{empty_extent, joined}
 use Rattle.prediction.specs.Lines.{vector_in_lines}
 use Rattle.prediction.specs.Ranges.{vector_in_range}
 use Rattle.prediction.specs.Vectors.{vector_of, still}
-use Rattle.prediction.specs.declared.Block.TheVariants.{Inside}
+use Rattle.std.specs.Prelude.{Some}
 use Rattle.prediction.specs.declared.Extent.{Extent}
 use Rattle.prediction.specs.declared.Line.{Line}
 use Rattle.prediction.specs.declared.Position.{Position}
@@ -72,7 +72,7 @@ field_coding x e = eqb-true x.coding 2 (and_right (not x.frame_pred_frame_dct) (
 -- A vector that keeps its lines: its block in range and inside, and what it touches.
 pub record Fits (k : Structure) (q : Progress) (codes : Codes) (w : ℕ) (e : Extent) : Type 0 where
   pub range : vector_in_range k (vector_of w) codes.x codes.y ≡ true
-  pub block : block_at k q.frame.surface q.picture.grid q.position (vector_of w) ≡ Inside e
+  pub block : block_at k q.frame.surface q.picture.grid q.position (vector_of w) ≡ Some e
 
 fits : (k : Structure) (p q : Progress) (column w : ℕ) (codes : Codes) → column < p.picture.grid.columns → p.position.row < p.picture.grid.rows
     → q.frame ≡ p.frame → q.picture ≡ p.picture → q.position ≡ place_in p column

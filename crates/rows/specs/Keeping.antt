@@ -1,6 +1,6 @@
 -- What a command that the tests let pass comes to: each of its rules holds, and what it touches is joined.
 -- Proved: against the rules and the progress after them, by `accepted` (proofs/Keeping.antt) and `found_comes` (proofs/Taking.antt).
-use Rattle.std.specs.Prelude.{true, not, ◌&&◌, ◌||◌, List, ◌≡◌, ℕ, ◌-◌, ◌<◌, length}
+use Rattle.std.specs.Prelude.{true, not, ◌&&◌, ◌||◌, List, ◌≡◌, ℕ, ◌<◌, length}
 use Rattle.headers.specs.Words.{word_at}
 use Rattle.macroblock.specs.Cases.{motion_of}
 use Rattle.macroblock.specs.Macroblocks.{macroblock_of, kind_in}

@@ -2,8 +2,7 @@
 -- Proved: against the walk, by `turn_row` (crates/batch_code/proofs/RowTurn.antt).
 use Rattle.std.specs.Prelude.{ℕ, ◌-◌, ◌/◌, ◌≤◌, ◌<◌, true, ◌≡◌, length, take, drop}
 use mathlib.Core.List.{List, [], ◌∷◌, flatten}
-use Rattle.answers.specs.Answers.{judged}
-use Rattle.answers.specs.declared.Answer.TheVariants.{Accepted}
+use Rattle.answers.specs.Answers.{judged, Accepted}
 use Rattle.headers.specs.Headers.{macroblock_header}
 use Rattle.headers.specs.Words.{word_at}
 use Rattle.progress.specs.declared.Progress.{Progress}
@@ -16,7 +15,7 @@ use Rattle.progress.specs.declared.Previous.{Previous}
 use Rattle.placement.specs.Progressing.{position_after, stage_after, previous_of, macroblock_next}
 use Rattle.rows.specs.Steps.{place_in, reach_in}
 use Rattle.rows.specs.Touching.{forward_after, backward_after}
-use Rattle.rows.specs.declared.Taken.{Taken}
+use Rattle.progress.specs.declared.Taken.{Taken}
 
 -- From progress `p` to progress `q` by whole MACROBLOCK commands, one behind the other, each of which keeps its rules where it comes.
 abbrev pub Follow : Progress → List (List ℕ) → Progress → Type 0

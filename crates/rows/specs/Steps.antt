@@ -1,9 +1,10 @@
 -- What the tests of one MACROBLOCK command find, before its rules are asked; its rules follow from it (proofs/Keeping.antt, proofs/Taking.antt).
 -- Proved: against the rules, by `found_comes` (proofs/Taking.antt).
-use Rattle.std.specs.Prelude.{ℕ, ◌+◌, ◌*◌, max, Bool, true, ◌||◌, List, ◌⊎◌, ◌≡◌, eqb}
+use Rattle.std.specs.Prelude.{ℕ, ◌+◌, ◌*◌, max, Bool, true, ◌||◌, List, ◌⊎◌, ◌≡◌, eqb, Option, IfSome}
 use Rattle.fields.specs.Word.{bits, is_set, with_bits}
 use Rattle.prediction.specs.Lines.{line_in, vector_in_lines, reach_of}
 use Rattle.prediction.specs.declared.Extent.{Extent}
+use Rattle.prediction.specs.declared.Line.{Line}
 use Rattle.prediction.specs.declared.Position.{Position}
 use Rattle.prediction.specs.declared.Structure.{Structure}
 use Rattle.prediction.specs.declared.Structure.TheVariants as structure
@@ -15,8 +16,7 @@ use Rattle.placement.specs.Blocks.{field_of}
 use Rattle.placement.specs.Placing.{allowed_in}
 use Rattle.rows.specs.Words.{type_bits, without_choices, FlagsKept, IntraKept, InterKept, FieldKept}
 use Rattle.rows.specs.declared.Lines.{Lines}
-use Rattle.rows.specs.declared.Step.{Step}
-use Rattle.rows.specs.declared.Step.TheVariants.{Kept, Left}
+use Rattle.rows.specs.declared.Ends.{Ends}
 
 -- The lines of a picture's columns and rows under its f codes.
 unfoldable pub lines_of : Picture → Lines
@@ -81,6 +81,11 @@ abbrev pub BackwardFits : Progress → ℕ → ℕ → Type 0
 BackwardFits p column w =
     vector_in_lines structure.Frame (lines_of p.picture).backward_x (lines_of p.picture).backward_y column p.position.row w ≡ true
 
+-- What a vector in the frame of the reference with lines x and y finds: it keeps them, and what it touches is joined to an end.
+pub record VectorFound (p : Progress) (column : ℕ) (x y : Line) (w end r : ℕ) : Type 0 where
+  pub fits : vector_in_lines structure.Frame x y column p.position.row w ≡ true
+  pub end_is : r ≡ max end (reach_in p column w).end
+
 module _ (p : Progress) (column : ℕ) (ws : List ℕ) where
   -- A block of a field prediction, and both, the first before the second.
   pub record BlockFound (block end r : ℕ) : Type 0 where
@@ -133,28 +138,23 @@ module _ (p : Progress) (column forward backward : ℕ) (ws : List ℕ) where
     pub blocks : BlocksFound p column ws forward f
     pub backward_is : b ≡ backward
 
-  abbrev pub ByForward : Step → Type 0
-  ByForward (Kept f b) = type_in p ws ≡ 0x100 → ForwardFound f b
-  ByForward Left = Unit {0}
+  abbrev pub ByForward : Option Ends → Type 0
+  ByForward r = IfSome r (λ e. type_in p ws ≡ 0x100 → ForwardFound e.forward e.backward)
 
-  abbrev pub ByBackward : Step → Type 0
-  ByBackward (Kept f b) = type_in p ws ≡ 0x200 → BackwardFound f b
-  ByBackward Left = Unit {0}
+  abbrev pub ByBackward : Option Ends → Type 0
+  ByBackward r = IfSome r (λ e. type_in p ws ≡ 0x200 → BackwardFound e.forward e.backward)
 
-  abbrev pub ByBoth : Step → Type 0
-  ByBoth (Kept f b) = type_in p ws ≡ 0x300 → BothFound f b
-  ByBoth Left = Unit {0}
+  abbrev pub ByBoth : Option Ends → Type 0
+  ByBoth r = IfSome r (λ e. type_in p ws ≡ 0x300 → BothFound e.forward e.backward)
 
-  abbrev pub ByField : ℕ → Step → Type 0
-  ByField due (Kept f b) = typed_as p ws ≡ 0x4401 → FieldFound due f b
-  ByField due Left = Unit {0}
+  abbrev pub ByField : ℕ → Option Ends → Type 0
+  ByField due r = IfSome r (λ e. typed_as p ws ≡ 0x4401 → FieldFound due e.forward e.backward)
 
   abbrev pub FrameFound : ℕ → ℕ → Type 0
   FrameFound f b = ForwardFound f b ⊎ (BackwardFound f b ⊎ BothFound f b)
 
-  abbrev pub ByFrame : List ℕ → Step → Type 0
-  ByFrame before (Kept f b) = InterKept p.picture.coding before ws × FrameFound f b
-  ByFrame before Left = Unit {0}
+  abbrev pub ByFrame : List ℕ → Option Ends → Type 0
+  ByFrame before r = IfSome r (λ e. InterKept p.picture.coding before ws × FrameFound e.forward e.backward)
 
   -- Word 4 of all but field predictions.
   abbrev pub Flagged : ℕ → Type 0
@@ -163,15 +163,13 @@ module _ (p : Progress) (column forward backward : ℕ) (ws : List ℕ) where
   abbrev pub Coded : ℕ → List ℕ → ℕ → ℕ → Type 0
   Coded due before f b = FieldFound due f b ⊎ (Flagged due × (IntraFound f b ⊎ (InterKept p.picture.coding before ws × FrameFound f b)))
 
-  abbrev pub ByCoded : ℕ → List ℕ → Step → Type 0
-  ByCoded due before (Kept f b) = Coded due before f b
-  ByCoded due before Left = Unit {0}
+  abbrev pub ByCoded : ℕ → List ℕ → Option Ends → Type 0
+  ByCoded due before r = IfSome r (λ e. Coded due before e.forward e.backward)
 
   pub record Found (due : ℕ) (before : List ℕ) (f b : ℕ) : Type 0 where
     pub header : word_at ws 0 ≡ macroblock_header
     pub position : AtWord (word_at ws 2) column p.position.row
     pub coded : Coded due before f b
 
-  abbrev pub StepFrom : ℕ → List ℕ → Step → Type 0
-  StepFrom due before (Kept f b) = Found due before f b
-  StepFrom due before Left = Unit {0}
+  abbrev pub StepFrom : ℕ → List ℕ → Option Ends → Type 0
+  StepFrom due before r = IfSome r (λ e. Found due before e.forward e.backward)

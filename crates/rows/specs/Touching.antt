@@ -2,7 +2,7 @@
 -- progress between them.
 -- Proved: against the progress after each command, by `go_on` (proofs/Going.antt).
 use Rattle.std.specs.Prelude.{ℕ, zero, suc, ◌+◌, ◌*◌, ◌≤◌, ◌<◌, min, Bool, true, false, cond, ◌&&◌, ◌||◌, List, [], ◌∷◌, ◌≡◌, eqb, take, drop}
-use Rattle.fields.specs.Word.{bits, with_bits}
+use Rattle.fields.specs.Word.{with_bits}
 use Rattle.headers.specs.Words.{word_at}
 use Rattle.macroblock.specs.declared.Allowed.{Allowed}
 use Rattle.prediction.specs.Extents.{joined}

@@ -4,14 +4,6 @@
 
 use macroblock::Allowed;
 use prediction::Line;
-use progress::Progress;
-
-// What a row of macroblocks came to: how many of the words were taken, and how far the batch has come with them.
-#[derive(Clone, Copy)]
-pub struct Taken {
-    pub progress: Progress,
-    pub used: usize,
-}
 
 // The lines of a picture's columns and rows, under the f codes of both references, those of its fields' rows, and what the picture allows.
 #[derive(Clone, Copy)]
@@ -24,9 +16,9 @@ pub struct Lines {
     pub allowed: Allowed,
 }
 
-// What one command came to: taken, with the ends of what is touched of both references after it, or left.
+// The ends of what is touched of both references: 0 where nothing is.
 #[derive(Clone, Copy)]
-pub enum Step {
-    Kept(u64, u64),
-    Left,
+pub struct Ends {
+    pub forward: u64,
+    pub backward: u64,
 }

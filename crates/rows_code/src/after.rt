@@ -10,22 +10,10 @@ fn extents_next(progress: Progress, column: u16, forward: Extent, backward: Exte
     ensures { result ≡ extents_next progress column forward backward }
 {
     let surface = progress.frame.surface;
-    let row = progress.position.row;
-    let first = prediction_code::reach_first(
-        Structure::Frame,
-        surface,
-        progress.position.column,
-        row,
-        0,
-    );
-    let end = prediction_code::reach_end(
-        Structure::Frame,
-        surface.pitch,
-        surface.chroma_row,
-        column,
-        row,
-        0,
-    );
+    let position = progress.position;
+    let last = Position { column, ..position };
+    let first = prediction_code::reach_first(Structure::Frame, surface, position, 0);
+    let end = prediction_code::reach_end(Structure::Frame, surface, last, 0);
     let own = Extent { first, end };
     let source = extents::join(progress.extents.source, own);
     let reconstructed = extents::join(progress.extents.reconstructed, own);
@@ -38,6 +26,7 @@ fn extents_next(progress: Progress, column: u16, forward: Extent, backward: Exte
 }
 
 // The progress after commands of a row, of which the last is this one, at this column.
+#[tactic(auto, unfolding(rows::specs::Rows::after_row))]
 pub(crate) fn after_row(
     progress: Progress,
     column: u16,
@@ -47,24 +36,21 @@ pub(crate) fn after_row(
 ) -> Progress
     ensures { result ≡ after_row progress column forward backward words.now }
 {
-    let frame = progress.frame;
-    let picture = progress.picture;
     let kind = macroblock_code::kind_in(headers_code::word_at(words, 1));
     let flags = macroblock_code::flags_in(headers_code::word_at(words, 4));
     let at = Position {
         column,
-        row: progress.position.row,
+        ..progress.position
     };
     let stage = placement_code::stage_after(progress.stage, flags);
-    let position = placement_code::position_after(picture.grid, at);
+    let position = placement_code::position_after(progress.picture.grid, at);
     let previous = placement_code::previous_of(kind, words);
     let extents = extents_next(progress, column, forward, backward);
     Progress {
         stage,
-        frame,
-        picture,
         position,
         previous,
         extents,
+        ..progress
     }
 }

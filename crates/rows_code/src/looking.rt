@@ -1,99 +1,39 @@
 // The first byte that commands of a row touch of a reference, by a second look at them: the loop over the row counts ends alone, since few
-// rows can lower a first byte. `alone` is the type of a macroblock that is predicted from the one reference, and its vectors stand in
-// word `word`.
-ghost use Rattle.std.specs.Prelude.{true, ◌≡◌, ◌+◌, ◌/◌, ◌≤◌, ◌<◌, length};
+// rows can lower a first byte.
+ghost use Rattle.std.specs.Prelude.{true, ◌≡◌, ◌+◌, ◌*◌, ◌≤◌, ◌<◌, length};
 ghost use Rattle.prediction.specs.Lines.{floor_of};
 ghost use Rattle.prediction.specs.declared.Structure.TheVariants.{Frame, TopField};
-ghost use Rattle.rows.specs.Touching.{uses_vector, uses_fields, points_in, lowered, VectorsFit, across_of, down_of, lowest_of, Lowered};
+ghost use Rattle.rows.specs.Touching.{uses_vector, uses_fields, points_in, lowered, frames_only, VectorsFit, across_of, down_of, lowest_of, touched_after, Lowered};
+ghost use Rattle.placement.specs.Placing.{allowed_in};
 
 use crate::words;
 use macroblock::Allowed;
 use picture::Codes;
 use prediction::{Extent, Grid, Position, Structure, Surface};
+use progress::Progress;
 
-// Whether a command with this word 1 is predicted from the reference's frame.
-fn uses(free: bool, alone: u32, one: u32) -> bool
-    ensures { result ≡ uses_vector free alone one }
-{
-    let kind = fields_code::with_bits(words::type_bits(free, one), 2, 2, 0);
-    (kind == alone) | (kind == 0x300)
-}
-
-// Whether it is predicted from fields.
-fn uses_fields(allowed: Allowed, one: u32) -> bool
-    ensures { result ≡ uses_fields allowed one }
-{
-    let low = words::type_bits(allowed.dct_type, one);
-    allowed.field & (low == 0x4401)
-}
-
-// The first byte, for a minimum.
-pub(crate) fn lowest(extent: Extent) -> u64
+// The first byte, for a minimum: the highest number where nothing is touched, since a minimum with it is the other one (`lowest_of`).
+fn lowest(extent: Extent) -> u64
     ensures { result ≡ lowest_of extent }
 {
     if extent.end == 0 {
-        return 18446744073709551615;
+        return u64::MAX;
     }
     extent.first
 }
 
-// The lowest of a first byte and those of a command's vectors in the reference.
-fn first_next(
-    first: u64,
-    surface: Surface,
-    column: u16,
-    row: u16,
-    allowed: Allowed,
-    alone: u32,
-    word: usize,
-    words: &[u32],
-) -> u64
-    ensures { result ≡ lowered surface (record { column = column; row = row }) (points_in alone word allowed words.now) first }
-{
-    let one = headers_code::word_at(words, 1);
-    let four = headers_code::word_at(words, 4);
-    if uses(allowed.dct_type, alone, one) {
-        let vector = headers_code::word_at(words, word);
-        return prediction_code::first_with(first, Structure::Frame, surface, column, row, vector);
-    }
-    if !uses_fields(allowed, one) {
-        return first;
-    }
-    let top = placement_code::field_of(fields_code::is_set(four, 16));
-    let bottom = placement_code::field_of(fields_code::is_set(four, 18));
-    let five = headers_code::word_at(words, 5);
-    let seven = headers_code::word_at(words, 7);
-    let above = prediction_code::first_with(first, top, surface, column, row, five);
-    prediction_code::first_with(above, bottom, surface, column, row, seven)
-}
-
-// Whether no block of the row from a column on begins before a byte: `left`, `low` and `field_low` are the lowest components, of x and of y in
-// frames and in fields.
-fn stays(
-    first: u64,
-    surface: Surface,
-    column: u16,
+// The lowest components that a reference's vectors can have: of x, and of y in frames and in fields.
+#[derive(Clone, Copy)]
+struct Floors {
     left: u16,
-    row: u16,
     low: u16,
-    fields: bool,
     field_low: u16,
-) -> bool
-    ensures { result ≡ true → (first < 9223372036854775808) × (first ≤ floor_of Frame surface column left row low) × (fields ≡ true → first ≤ floor_of TopField surface column left row field_low) }
-{
-    if prediction_code::floor_of(Structure::Frame, surface, column, left, row, low) < first {
-        return false;
-    }
-    if !fields {
-        return true;
-    }
-    first <= prediction_code::floor_of(Structure::TopField, surface, column, left, row, field_low)
 }
 
-// The first byte that is touched of the reference after the commands before word `at`, where `first` is the one before them. The look ends
-// where no block from there on can begin before it, which in most rows is at once. Numbers and small structs alone come and go: an extent would be lent
-// as memory, and the whole progress with it.
-pub(crate) fn first_after(
+// One reference, as commands of a row from a position on may use it. `alone` is the type of a macroblock that is predicted from it alone,
+// and the vector of such a one stands in word `word`.
+#[derive(Clone, Copy)]
+pub(crate) struct Look {
     surface: Surface,
     grid: Grid,
     position: Position,
@@ -101,49 +41,148 @@ pub(crate) fn first_after(
     allowed: Allowed,
     alone: u32,
     word: usize,
-    first: u64,
-    at: usize,
-    words: &[u32],
-) -> u64
-    requires { (at ≤ length words.now) × (position.column + at / 9 < 65536) × VectorsFit (points_in alone word allowed) surface position words.now (across_of grid codes) (down_of grid codes) (at / 9) }
-    ensures { Lowered (points_in alone word allowed) surface position words.now (at / 9) first result }
-{
-    let row = position.row;
-    let across = prediction_code::line_of(Structure::Frame, grid.columns, codes.x);
-    let down = prediction_code::line_of(Structure::Frame, grid.rows, codes.y);
-    let field_down = prediction_code::line_of(Structure::TopField, grid.rows, codes.y);
-    let left = across.low;
-    let low = down.low;
-    let field_low = field_down.low;
-    let mut lowest = first;
-    let mut column = position.column;
-    let mut i = 0;
-    while i + 9 <= at {
-        if stays(
-            lowest,
-            surface,
+}
+
+impl Look {
+    pub(crate) fn forward(progress: Progress) -> Self
+        ensures { result ≡ record { surface = progress.frame.surface; grid = progress.picture.grid; position = progress.position; codes = progress.picture.forward; allowed = allowed_in progress.picture; alone = 0x100; word = 5 } }
+    {
+        Look {
+            surface: progress.frame.surface,
+            grid: progress.picture.grid,
+            position: progress.position,
+            codes: progress.picture.forward,
+            allowed: placement_code::allowed_in(progress.picture),
+            alone: words::FORWARD,
+            word: 5,
+        }
+    }
+
+    // Fields are predicted from the forward reference alone.
+    pub(crate) fn backward(progress: Progress) -> Self
+        ensures { result ≡ record { surface = progress.frame.surface; grid = progress.picture.grid; position = progress.position; codes = progress.picture.backward; allowed = frames_only (allowed_in progress.picture); alone = 0x200; word = 6 } }
+    {
+        let allowed = Allowed {
+            field: false,
+            ..placement_code::allowed_in(progress.picture)
+        };
+        Look {
+            codes: progress.picture.backward,
+            allowed,
+            alone: words::BACKWARD,
+            word: 6,
+            ..Look::forward(progress)
+        }
+    }
+
+    // Whether a command with this word 1 is predicted from the reference's frame.
+    fn uses(self, one: u32) -> bool
+        ensures { result ≡ uses_vector self.allowed.dct_type self.alone one }
+    {
+        let kind = fields_code::with_bits(words::type_bits(self.allowed.dct_type, one), 2, 2, 0);
+        kind == self.alone || kind == words::BOTH
+    }
+
+    // Whether it is predicted from fields.
+    fn uses_fields(self, one: u32) -> bool
+        ensures { result ≡ uses_fields self.allowed one }
+    {
+        self.allowed.field && words::type_bits(self.allowed.dct_type, one) == words::FIELDS
+    }
+
+    // The lowest of a first byte and those of the vectors of a command at a column.
+    fn first_next(self, first: u64, column: u16, words: &[u32]) -> u64
+        ensures { result ≡ lowered self.surface (record { column = column; row = self.position.row }) (points_in self.alone self.word self.allowed words.now) first }
+    {
+        let surface = self.surface;
+        let position = Position {
+            column,
+            ..self.position
+        };
+        let one = headers_code::word_at(words, 1);
+        if self.uses(one) {
+            let vector = headers_code::word_at(words, self.word);
+            return prediction_code::first_with(first, Structure::Frame, surface, position, vector);
+        }
+        if !self.uses_fields(one) {
+            return first;
+        }
+        let four = headers_code::word_at(words, 4);
+        let top = placement_code::field_of(fields_code::is_set(four, 16));
+        let bottom = placement_code::field_of(fields_code::is_set(four, 18));
+        let five = headers_code::word_at(words, 5);
+        let seven = headers_code::word_at(words, 7);
+        let above = prediction_code::first_with(first, top, surface, position, five);
+        prediction_code::first_with(above, bottom, surface, position, seven)
+    }
+
+    fn floors(self) -> Floors
+        ensures { result ≡ record { left = (across_of self.grid self.codes).low; low = (down_of self.grid self.codes Frame).low; field_low = (down_of self.grid self.codes TopField).low } }
+    {
+        let grid = self.grid;
+        let codes = self.codes;
+        Floors {
+            left: prediction_code::line_of(Structure::Frame, grid.columns, codes.x).low,
+            low: prediction_code::line_of(Structure::Frame, grid.rows, codes.y).low,
+            field_low: prediction_code::line_of(Structure::TopField, grid.rows, codes.y).low,
+        }
+    }
+
+    // The first byte that a block of the row from a column on can touch, with these lowest components.
+    fn floor(self, structure: Structure, column: u16, left: u16, low: u16) -> u64
+        ensures { (result ≡ floor_of structure self.surface column left self.position.row low) × (result < 9223372036854775808) }
+    {
+        prediction_code::floor_of(
+            structure,
+            self.surface,
             column,
             left,
-            row,
+            self.position.row,
             low,
-            allowed.field,
-            field_low,
-        ) {
-            break;
-        }
-        let end = i + 9;
-        lowest = first_next(
-            lowest,
-            surface,
-            column,
-            row,
-            allowed,
-            alone,
-            word,
-            &words[i..end],
-        );
-        column += 1;
-        i = end;
+        )
     }
-    lowest
+
+    // Whether no block of the row from a column on begins before a byte.
+    fn stays(self, first: u64, column: u16, floors: Floors) -> bool
+        ensures { result ≡ true → (first < 9223372036854775808) × (first ≤ floor_of Frame self.surface column floors.left self.position.row floors.low) × (self.allowed.field ≡ true → first ≤ floor_of TopField self.surface column floors.left self.position.row floors.field_low) }
+    {
+        let left = floors.left;
+        first <= self.floor(Structure::Frame, column, left, floors.low)
+            && (!self.allowed.field
+                || first <= self.floor(Structure::TopField, column, left, floors.field_low))
+    }
+
+    // The bounds on the count, here and in `touched`, are of the words, which no value here holds.
+
+    // The first byte that is touched of the reference after so many commands, where `first` is the one before them. The look ends
+    // where no block from there on can begin before it, which in most rows is at once.
+    fn first_after(self, first: u64, count: usize, words: &[u32]) -> u64
+        requires { (9 * count ≤ length words.now) × (self.position.column + count < 65536) × VectorsFit (points_in self.alone self.word self.allowed) self.surface self.position words.now (across_of self.grid self.codes) (down_of self.grid self.codes) count }
+        ensures { Lowered (points_in self.alone self.word self.allowed) self.surface self.position words.now count first result }
+    {
+        let floors = self.floors();
+        let mut lowest = first;
+        for k in 0..count {
+            let column = self.position.column + k as u16;
+            if self.stays(lowest, column, floors) {
+                return lowest;
+            }
+            lowest = self.first_next(lowest, column, &words[9 * k..9 * k + 9]);
+        }
+        lowest
+    }
+
+    // What is touched of the reference after so many commands, which touch it up to `end`.
+    #[tactic(auto, using(rows::proofs::TouchedLaws::after_nothing))]
+    pub(crate) fn touched(self, extent: Extent, end: u64, count: usize, words: &[u32]) -> Extent
+        requires { (9 * count ≤ length words.now) × (self.position.column + count < 65536) × (end ≡ (touched_after (points_in self.alone self.word self.allowed) self.surface self.position words.now count extent).end) × VectorsFit (points_in self.alone self.word self.allowed) self.surface self.position words.now (across_of self.grid self.codes) (down_of self.grid self.codes) count }
+        ensures { result ≡ touched_after (points_in self.alone self.word self.allowed) self.surface self.position words.now count extent }
+    {
+        let first = if end == 0 {
+            extent.first
+        } else {
+            self.first_after(lowest(extent), count, words)
+        };
+        Extent { first, end }
+    }
 }

@@ -1,13 +1,12 @@
 -- Where PICTURE's bit 10 is 1, every command comes to what it came to before document 02's R-6.
-use mathlib.Core.Path.{◌≡◌, refl, sym, ap, ap₂, ◌∙◌}
+use mathlib.Core.Path.{◌≡◌, refl, ap, ◌∙◌}
 use mathlib.Core.Bool.{Bool, true, false, cond}
-use mathlib.Core.List.{List, [], ◌∷◌}
+use mathlib.Core.List.{List}
 use Prim.Native.Nat.{ℕ}
 use lib.Dec.{eqb}
 use Rattle.fields.specs.Word.{bits}
-use Rattle.answers.specs.Answers.{rule, judged, earlier, answer_by}
-use Rattle.answers.specs.declared.Answer.{Answer}
-use Rattle.answers.specs.declared.Answer.TheVariants.{Accepted, Refused}
+use Rattle.answers.specs.Answers.{rule, judged, earlier, answer_by, Accepted, Answer}
+use Rattle.std.specs.Prelude.{Ok, Err}
 use Rattle.headers.specs.Headers.{begins}
 use Rattle.headers.specs.Words.{word_at}
 use Rattle.headers.specs.declared.Header.{Header}
@@ -18,7 +17,6 @@ use Rattle.picture.specs.declared.Picture as pictures
 use Rattle.picture.proofs.Before.{picture_before}
 use Rattle.progress.specs.Progress.{concluded}
 use Rattle.progress.specs.declared.Progress.{Progress}
-use Rattle.progress.specs.declared.Verdict.TheVariants.{Next}
 use Rattle.placement.specs.Placing.{macroblock_rules}
 use Rattle.placement.specs.Progressing.{macroblock_next}
 use Rattle.placement.specs.Before.{macroblock_next_before}
@@ -31,8 +29,8 @@ use Rattle.sequence.proofs.SequenceLaws.{said_next}
 
 -- what comes of an answer, where the progress matters if it accepts
 same_conclusion : (a : Answer) (p q : Progress) → (a ≡ Accepted → p ≡ q) → concluded a p ≡ concluded a q
-same_conclusion Accepted p q h = ap Next (h refl)
-same_conclusion (Refused n w) p q h = refl
+same_conclusion Accepted p q h = ap Ok (h refl)
+same_conclusion (Err f) p q h = refl
 
 pub judge_before_lem : (h : Header) (p : Progress) (ws : List ℕ) → p.picture.frame_pred_frame_dct ≡ true
     → (begins Picture h ≡ true → bits (word_at ws 1) 10 10 ≡ 1) → judge h p ws ≡ judge_before h p ws
@@ -52,7 +50,7 @@ judge_before_lem (Carried n) p ws frames set = refl
 judge_before_lem Unknown p ws frames set = refl
 
 -- The picture stays one with bit 10 = 1.
-pub frames_next : (h : Header) (p : Progress) (ws : List ℕ) (q : Progress) → judge h p ws ≡ Next q → p.picture.frame_pred_frame_dct ≡ true
+pub frames_next : (h : Header) (p : Progress) (ws : List ℕ) (q : Progress) → judge h p ws ≡ Ok q → p.picture.frame_pred_frame_dct ≡ true
     → (begins Picture h ≡ true → bits (word_at ws 1) 10 10 ≡ 1) → q.picture.frame_pred_frame_dct ≡ true
 unfolding picture_of
 frames_next h p ws q e frames set =

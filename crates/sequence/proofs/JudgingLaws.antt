@@ -7,9 +7,8 @@ use native.Mathlib.Nat.{le_trans}
 use native.Mathlib.Omega.{arith}
 use lib.Dec.{T, eqb, leb, ltb, leb→le, ltb→lt}
 use Rattle.lists.proofs.Booleans.{no}
-use Rattle.answers.specs.Answers.{rule, judged}
-use Rattle.answers.specs.declared.Answer.{Answer}
-use Rattle.answers.specs.declared.Answer.TheVariants.{Accepted, Refused}
+use Rattle.answers.specs.Answers.{rule, judged, Accepted, fault_at, Answer}
+use Rattle.std.specs.Prelude.{Ok, Err}
 use Rattle.answers.proofs.Judging.{within_both, judged_within}
 use Rattle.headers.specs.Headers.{table, header_of, words_in}
 use Rattle.headers.proofs.HeaderLaws.{every_header}
@@ -21,7 +20,6 @@ use Rattle.picture.specs.Pictures.{picture_rules}
 use Rattle.picture.proofs.PictureLaws.{surface_within, picture_within}
 use Rattle.progress.specs.Progress.{verdict_answer, concluded}
 use Rattle.progress.specs.declared.Progress.{Progress}
-use Rattle.progress.specs.declared.Verdict.TheVariants.{Next, Stop}
 use Rattle.placement.specs.Placing.{macroblock_rules}
 use Rattle.placement.proofs.MacroblockLaws.{macroblock_within}
 use Rattle.sequence.specs.Sequence.{surface_permitted, picture_permitted}
@@ -50,16 +48,16 @@ rules_within (Known Macroblock n) p ws = macroblock_within p ws
 rules_within (Carried n) p ws = tt
 rules_within Unknown p ws = tt
 
-stops_by_last : (h : Header) (p : Progress) (ws : List ℕ) (n w : ℕ) → judge h p ws ≡ Stop n w → (2 ≤ n) × (n ≤ 12) × (w ≤ last_word h)
+stops_by_last : (h : Header) (p : Progress) (ws : List ℕ) (n w : ℕ) → judge h p ws ≡ Err (fault_at n w) → (2 ≤ n) × (n ≤ 12) × (w ≤ last_word h)
 unfolding judge
 stops_by_last h p ws n w e = by (judged (rules_of h p ws)) refl e
   where
-    by : (a : Answer) → judged (rules_of h p ws) ≡ a → concluded a (next_of h p ws) ≡ Stop n w → (2 ≤ n) × (n ≤ 12) × (w ≤ last_word h)
+    by : (a : Answer) → judged (rules_of h p ws) ≡ a → concluded a (next_of h p ws) ≡ Err (fault_at n w) → (2 ≤ n) × (n ≤ 12) × (w ≤ last_word h)
     by Accepted s e = let z : ◌≡◌ {A = ℕ} 0 1 = cc in absurd (omega arith)
-    by (Refused m q) s e = let i : q ≡ w = cc in let j : m ≡ n = cc in rw (i, j) at (judged_within 12 (last_word h) (rules_of h p ws) (rules_within h p ws) s)
+    by (Err f) s e = let i : f.place ≡ w = cc in let j : f.number ≡ n = cc in rw (i, j) at (judged_within 12 (last_word h) (rules_of h p ws) (rules_within h p ws) s)
 
 -- A command is refused with a number from 2 to 12, at one of its words 0 to 8.
-pub stops_within : (h : Header) (p : Progress) (ws : List ℕ) (n w : ℕ) → judge h p ws ≡ Stop n w → (2 ≤ n) × (n ≤ 12) × (w ≤ 8)
+pub stops_within : (h : Header) (p : Progress) (ws : List ℕ) (n w : ℕ) → judge h p ws ≡ Err (fault_at n w) → (2 ≤ n) × (n ≤ 12) × (w ≤ 8)
 stops_within h p ws n w e = let k = stops_by_last h p ws n w e in (k.0, k.1, le_trans k.2 (leb→le (last_word h) 8 (few h)))
   where
     few : (h : Header) → T (leb (last_word h) 8)
@@ -76,7 +74,7 @@ stops_within h p ws n w e = let k = stops_by_last h p ws n w e in (k.0, k.1, le_
 abbrev inside : Header → Bool
 inside h = eqb (words_in h) 0 || ltb (last_word h) (words_in h)
 
-pub stops_inside : (x : ℕ) (p : Progress) (ws : List ℕ) (n w : ℕ) → judge (header_of x) p ws ≡ Stop n w → eqb (words_in (header_of x)) 0 ≡ false → w < words_in (header_of x)
+pub stops_inside : (x : ℕ) (p : Progress) (ws : List ℕ) (n w : ℕ) → judge (header_of x) p ws ≡ Err (fault_at n w) → eqb (words_in (header_of x)) 0 ≡ false → w < words_in (header_of x)
 unfolding table
 stops_inside x p ws n w e some =
     let k = stops_by_last (header_of x) p ws n w e in
@@ -88,13 +86,13 @@ stops_inside x p ws n w e some =
     by false f t = ltb→lt (last_word (header_of x)) (words_in (header_of x)) t
 
 -- A command that is not refused keeps its rules, and the batch has come as far as it says.
-pub goes_on : (h : Header) (p : Progress) (ws : List ℕ) (q : Progress) → judge h p ws ≡ Next q → (judged (rules_of h p ws) ≡ Accepted) × (q ≡ next_of h p ws)
+pub goes_on : (h : Header) (p : Progress) (ws : List ℕ) (q : Progress) → judge h p ws ≡ Ok q → (judged (rules_of h p ws) ≡ Accepted) × (q ≡ next_of h p ws)
 unfolding judge
 goes_on h p ws q e = by (judged (rules_of h p ws)) refl e
   where
-    by : (a : Answer) → judged (rules_of h p ws) ≡ a → concluded a (next_of h p ws) ≡ Next q → (judged (rules_of h p ws) ≡ Accepted) × (q ≡ next_of h p ws)
+    by : (a : Answer) → judged (rules_of h p ws) ≡ a → concluded a (next_of h p ws) ≡ Ok q → (judged (rules_of h p ws) ≡ Accepted) × (q ≡ next_of h p ws)
     by Accepted s e = (s, cc)
-    by (Refused m r) s e = let z : ◌≡◌ {A = ℕ} 0 1 = cc in absurd (omega arith)
+    by (Err f) s e = let z : ◌≡◌ {A = ℕ} 0 1 = cc in absurd (omega arith)
 
 -- The number and the place of a command that was judged are those of its table.
 pub judge_answer : (h : Header) (p : Progress) (ws : List ℕ) → verdict_answer (judge h p ws) ≡ judged (rules_of h p ws)
@@ -103,7 +101,7 @@ judge_answer h p ws = by (judged (rules_of h p ws))
   where
     by : (a : Answer) → verdict_answer (concluded a (next_of h p ws)) ≡ a
     by Accepted = refl
-    by (Refused n w) = refl
+    by (Err f) = refl
 
 -- A MACROBLOCK is judged by the rules of its picture and those that it keeps by itself, and no others.
 pub macroblock_table : (n : ℕ) (p : Progress) (ws : List ℕ) → rules_of (Known Macroblock n) p ws ≡ macroblock_rules p ws

@@ -10,8 +10,8 @@ use borrow.Author.Tests.{not-true, leb-true}
 use lib.Dec.{leb, ltb}
 use Rattle.lists.proofs.Booleans.{no, and_left, and_right}
 use Rattle.fields.specs.Word.{flag}
-use Rattle.answers.specs.Answers.{rule, judged}
-use Rattle.answers.specs.declared.Answer.TheVariants.{Accepted}
+use Rattle.answers.specs.Answers.{rule, judged, Accepted}
+use Rattle.std.specs.Prelude.{Ok}
 use Rattle.answers.proofs.Judging.{both_accept, rule_kept}
 use Rattle.headers.specs.Headers.{begins}
 use Rattle.headers.specs.declared.Header.{Header}
@@ -22,7 +22,6 @@ use Rattle.picture.specs.Surfaces.{surface_of}
 use Rattle.picture.proofs.PictureLaws.{some_columns, some_rows, wide}
 use Rattle.progress.specs.Progress.{fresh}
 use Rattle.progress.specs.declared.Progress.{Progress}
-use Rattle.progress.specs.declared.Verdict.TheVariants.{Next}
 use Rattle.placement.specs.Placing.{macroblock_rules}
 use Rattle.placement.specs.Progressing.{macroblock_next}
 use Rattle.placement.proofs.MacroblockLaws.{row_left}
@@ -167,7 +166,7 @@ sound_next (Carried n) p ws a s = (s, sym (add-zero (have_come p)))
 sound_next Unknown p ws a s = (s, sym (add-zero (have_come p)))
 
 -- A NOOP changes nothing.
-pub noop_passes : (n : ℕ) (p : Progress) (ws : List ℕ) → judge (Known Noop n) p ws ≡ Next p
+pub noop_passes : (n : ℕ) (p : Progress) (ws : List ℕ) → judge (Known Noop n) p ws ≡ Ok p
 unfolding judge rules_of next_of
 noop_passes n p ws = refl
 

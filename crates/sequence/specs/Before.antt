@@ -6,9 +6,8 @@ use Rattle.headers.specs.declared.Header.{Header}
 use Rattle.headers.specs.declared.Header.TheVariants.{Known, Carried, Unknown}
 use Rattle.headers.specs.declared.Opcode.TheVariants.{Noop, End, Surface, Picture, SliceGroup, Macroblock}
 use Rattle.picture.specs.Before.{picture_rules_before}
-use Rattle.progress.specs.Progress.{concluded}
+use Rattle.progress.specs.Progress.{concluded, Verdict}
 use Rattle.progress.specs.declared.Progress.{Progress}
-use Rattle.progress.specs.declared.Verdict.{Verdict}
 use Rattle.placement.specs.Before.{macroblock_rules_before, macroblock_next_before}
 use Rattle.sequence.specs.Judging.{rules_of, next_of}
 use Rattle.sequence.specs.Sequence.{picture_permitted}

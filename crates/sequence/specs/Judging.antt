@@ -7,9 +7,8 @@ use Rattle.headers.specs.declared.Header.TheVariants.{Known, Carried, Unknown}
 use Rattle.headers.specs.declared.Opcode.TheVariants.{Noop, End, Surface, Picture, SliceGroup, Macroblock}
 use Rattle.picture.specs.Surfaces.{surface_of, surface_rules}
 use Rattle.picture.specs.Pictures.{picture_of, picture_rules}
-use Rattle.progress.specs.Progress.{concluded}
+use Rattle.progress.specs.Progress.{concluded, Verdict}
 use Rattle.progress.specs.declared.Progress.{Progress}
-use Rattle.progress.specs.declared.Verdict.{Verdict}
 use Rattle.placement.specs.Placing.{macroblock_rules}
 use Rattle.placement.specs.Progressing.{macroblock_next}
 use Rattle.sequence.specs.Sequence.{surface_permitted, picture_permitted, group_permitted, carried_permitted, end_permitted, surface_next, picture_next, group_next, end_next}

@@ -8,9 +8,9 @@ use lib.ListN.{length, take, drop, length-drop}
 use Rattle.lists.proofs.Slices.{part_rest}
 use Rattle.headers.specs.declared.Header.{Header}
 use Rattle.progress.specs.declared.Progress.{Progress}
-use Rattle.progress.specs.declared.Verdict.{Verdict}
+use Rattle.progress.specs.Progress.{Verdict}
 use Rattle.rows.specs.Rows.{TakenFrom}
-use Rattle.rows.specs.declared.Taken.{Taken}
+use Rattle.progress.specs.declared.Taken.{Taken}
 use Rattle.sequence.specs.Judging.{judge}
 use Rattle.sequence.proofs.JudgingLaws.{stops_within}
 use Rattle.commands.specs.Commands.{next_in}
@@ -60,8 +60,8 @@ returns-then-p c =
     let l = c.loop-at in
     sym (l.invariant.so_far ∙ turn_behind c.args.base l.at l.p c.args.words.now c.requires c.loop-at-test.true c.if-p.true c.if-word-eq0.false)
 
-pub loop-at-preserved-then-used-ne0 : goal.loop-at-preserved-then-used-ne0
-loop-at-preserved-then-used-ne0 c =
+pub loop-at-preserved-then-row-ne0 : goal.loop-at-preserved-then-row-ne0
+loop-at-preserved-then-row-ne0 c =
     let l = c.loop-at in
     let t = taken_there l.at l.p c.args.words.now _ c.judge_row-row.ensures in
     record {
@@ -90,20 +90,20 @@ loop-at-preserved c =
     let l = c.loop-at in
     let x = there l.at c.args.words.now _ _ c.next_command.ensures c.in-Whole.is in
     let f = fits _ _ _ _ _ l.invariant.within c.next_command.ensures c.in-Whole.is in
-    let j = judged_there c.args.base l.at l.p c.args.words.now c.in-Whole.header c.in-Whole.n _ c.if-p.false c.requires l.invariant.within x (sym c.judge.ensures ∙ c.in-Next.is) in
+    let j = judged_there c.args.base l.at l.p c.args.words.now c.in-Whole.header c.in-Whole.n _ c.if-p.false c.requires l.invariant.within x (sym c.judge.ensures ∙ c.in-Ok.is) in
     record { within = f.1; so_far = l.invariant.so_far ∙ j }
 
-pub overflow_add-fault : goal.overflow_add-fault
-overflow_add-fault c =
-    let near = stops_within _ _ _ _ _ (sym c.judge.ensures ∙ c.in-Stop.is) in
+pub overflow_add-result : goal.overflow_add-result
+overflow_add-result c =
+    let near = stops_within _ _ _ _ _ (sym c.judge.ensures ∙ c.in-Err.is) in
     omega (arith, near.2)
 
-pub returns-in-Stop : goal.returns-in-Stop
+pub returns-in-Err : goal.returns-in-Err
 unfolding after
-returns-in-Stop c =
+returns-in-Err c =
     let l = c.loop-at in
     let x = there l.at c.args.words.now _ _ c.next_command.ensures c.in-Whole.is in
-    let j = judged_there c.args.base l.at l.p c.args.words.now c.in-Whole.header c.in-Whole.n _ c.if-p.false c.requires l.invariant.within x (sym c.judge.ensures ∙ c.in-Stop.is) in
+    let j = judged_there c.args.base l.at l.p c.args.words.now c.in-Whole.header c.in-Whole.n _ c.if-p.false c.requires l.invariant.within x (sym c.judge.ensures ∙ c.in-Err.is) in
     sym (l.invariant.so_far ∙ j ∙ stays _ _ (drop (l.at + c.in-Whole.n) c.args.words.now))
 
 pub returns-in-Incomplete : goal.returns-in-Incomplete

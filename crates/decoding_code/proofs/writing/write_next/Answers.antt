@@ -16,6 +16,7 @@ macroblock h o n e f = ap (begins Macroblock) e ∙ ap (λ (x : Opcode). begins 
 pub returns : goal.returns
 returns c =
     let a = c.args in
-    let is = macroblock a.header _ _ c.in-Known.is c.in-Macroblock.is in
+    let m = c.in-Known-Macroblock-default in
+    let is = macroblock a.header _ _ m.is (rw m.is at m.field-0-is) in
     one_written (begins Macroblock a.header) a.k a.words.now _ a.log.now _ is c.requires c.macroblock_of-macroblock.ensures
     c.write_record.ensures.1

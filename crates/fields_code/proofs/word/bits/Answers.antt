@@ -1,11 +1,8 @@
 -- `bits`: bits hi:lo of a word.
-use mathlib.Core.Path.{sym, ap, ◌∙◌}
+use mathlib.Core.Path.{ap, ◌∙◌}
 use Prim.Native.Nat.{ℕ, ◌-◌, ◌/◌, ◌^◌}
-use native.Mathlib.Omega.{arith}
 use lib.Bits.{bit_and, and_mask}
 use Rattle.fields.specs.Word.{width}
-use Rattle.fields.proofs.Fields.{no_bits}
-use borrow.Author.Rules.{rules}
 use Rattle.fields_code.proofs.word.bits.Goals as goal
 
 pub returns : goal.returns

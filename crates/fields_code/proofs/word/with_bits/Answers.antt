@@ -1,10 +1,8 @@
 -- `with_bits`: the word with the lowest bits of value in hi:lo, and its other bits as they were.
-use mathlib.Core.Path.{sym, ap, ◌∙◌}
+use mathlib.Core.Path.{ap, ◌∙◌}
 use Prim.Native.Nat.{ℕ}
 use native.Mathlib.Omega.{arith}
-use Rattle.fields.proofs.Fields.{same_word}
 use Rattle.fields.proofs.Masks.{three, packed, packed_top}
-use borrow.Author.Rules.{rules}
 use Rattle.fields_code.proofs.word.with_bits.Goals as goal
 
 pub returns-then-end-ge32 : goal.returns-then-end-ge32

@@ -1,6 +1,5 @@
 -- `hromulice_report_of`: the answer to all words so far, taken as a whole batch.
 use mathlib.Core.Path.{ap, ◌∙◌}
-use borrow.Author.Rules.{rules}
 use Rattle.batch.specs.Reports.{finish}
 use Rattle.parts.specs.States.{walk_in}
 use Rattle.parts.specs.declared.State.{State}

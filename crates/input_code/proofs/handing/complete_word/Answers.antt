@@ -3,7 +3,8 @@ use mathlib.Core.List.{[], foldl}
 use mathlib.Core.Path.{◌≡◌, sym, ◌∙◌, ap, ap₂}
 use Prim.Native.Nat.{◌+◌, ◌-◌}
 use native.Mathlib.Omega.{arith}
-use lib.ListN.{take, drop}
+use borrow.Author.Rules.{rules}
+use lib.ListN.{length, take, drop}
 use lib.Seq.{length-take-le}
 use Rattle.lists.proofs.Slices.{split, part_rest}
 use Rattle.fields.specs.Bytes.{number_in}
@@ -21,9 +22,11 @@ returns-then-piece-need c =
     let a = c.args in
     let few = c.if-piece-need.true in
     let p = c.append-bytes in
-    let len = held_length a.held a.old a.piece.now p.result p.ensures.1 (omega arith) p.ensures.0 in
+    let long : length p.result ≡ 32 = search rules in
+    let stored = p.ensures.front (omega arith) in
+    let len = held_length a.held a.old a.piece.now p.result long (omega arith) stored in
     c.hold.ensures
-    ∙ ap (body a.state.lengths (walk_in a.state)) p.ensures.0
+    ∙ ap (body a.state.lengths (walk_in a.state)) stored
     ∙ sym (word_gathered a.state.lengths (walk_in a.state) (take a.held a.old) a.piece.now (omega arith))
 
 pub returns : goal.returns
@@ -37,10 +40,12 @@ returns c =
     let g = take a.held a.old in
     let need = 4 - a.held in
     let size : a.held + need ≡ 4 = omega arith in
-    let len = start_length a.held need 4 a.old a.piece.now p.result p.ensures.1 (omega arith) enough size p.ensures.0 in
+    let long : length p.result ≡ 32 = search rules in
     let some = length-take-le need a.piece.now enough in
-    let whole = filled a.held need 4 a.old a.piece.now p.result p.ensures.1 (omega arith) enough size p.ensures.0 in
-    let word = c.word_at.ensures ∙ ap number_in (elements_take p.result 4 (omega (arith, p.ensures.1)) ∙ whole) in
+    let stored = p.ensures.front (omega arith) in
+    let len = start_length a.held need 4 a.old a.piece.now p.result long (omega arith) enough size stored in
+    let whole = filled a.held need 4 a.old a.piece.now p.result long (omega arith) enough size stored in
+    let word = c.word_at.ensures ∙ ap number_in (elements_take p.result 4 (omega arith) ∙ whole) in
     c.from_word.ensures
     ∙ ap (foldl feed (body h.result.lengths (walk_in h.result) [])) (part_rest need a.piece.now)
     ∙ ap (λ (x : Input). foldl feed x (drop need a.piece.now))

@@ -2,20 +2,25 @@
 use mathlib.Core.List.{[]}
 use mathlib.Core.Path.{◌∙◌, ap}
 use Prim.Native.Nat.{ℕ}
-use borrow.Author.Tests.{not-false}
 use lib.ListN.{take}
-use Rattle.input_code.proofs.HeldBytes.{handed_body}
+use Rattle.input_code.proofs.HeldBytes.{handed_head, handed_body}
 use Rattle.input_code.proofs.handing.hand_over.Goals as goal
+
+pub returns-in_default : goal.returns-in_default
+returns-in_default c =
+    let s = c.args.stream in
+    let h = c.held_bytes-held in
+    handed_head s c.complete_lengths.result (take h.result s.bytes) c.args.piece.now c.in_default.is h.ensures.0 c.complete_lengths.ensures
 
 pub returns-then-held-eq0 : goal.returns-then-held-eq0
 returns-then-held-eq0 c =
-    let a = c.args in
-    let h = c.held_bytes-held-2.ensures in
-    let none = ap (λ (k : ℕ). take k a.stream.bytes) c.if-held-eq0.true in
-    handed_body a.stream c.from_word.result [] a.piece.now (not-false _ c.if-not-stream.false) (h.0 ∙ none) c.from_word.ensures
+    let s = c.args.stream in
+    let h = c.held_bytes-held-2 in
+    let none = ap (λ (k : ℕ). take k s.bytes) c.if-held-eq0.true in
+    handed_body s c.from_word.result _ [] c.args.piece.now c.in-Some.is (h.ensures.0 ∙ none) c.from_word.ensures
 
 pub returns : goal.returns
 returns c =
-    let a = c.args in
+    let s = c.args.stream in
     let h = c.held_bytes-held-2 in
-    handed_body a.stream c.complete_word.result (take h.result a.stream.bytes) a.piece.now (not-false _ c.if-not-stream.false) h.ensures.0 c.complete_word.ensures
+    handed_body s c.complete_word.result _ (take h.result s.bytes) c.args.piece.now c.in-Some.is h.ensures.0 c.complete_word.ensures

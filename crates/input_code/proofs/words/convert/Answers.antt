@@ -1,24 +1,20 @@
--- `convert`: the words of some bytes, to the start of the room.
+-- `convert`: the words of some bytes, in a room of as many.
+use mathlib.Core.Path.{◌≡◌, sym, ◌∙◌}
 use native.Mathlib.Omega.{arith}
-use mathlib.Core.Path.{refl}
-use lib.ListN.{length-set}
+use Prim.Native.Nat.{◌/◌}
+use lib.ListN.{length}
+use lib.Seq.{take_all}
 use Rattle.input_code.proofs.WordLaws.{one_more, all_converted}
 use Rattle.input_code.proofs.words.convert.Goals as goal
 
 pub loop-i-preserved : goal.loop-i-preserved
 loop-i-preserved c =
     let l = c.loop-i in
-    let a = c.args in
-    let same = l.invariant.same_length in
-    let room = c.requires in
-    record {
-      within = omega arith;
-      all = refl;
-      same_length = simp length-set same;
-      converted = one_more a.bytes.now l.room l.i _ l.invariant.converted (omega arith) (omega arith) c.word_at.ensures;
-    }
+    one_more c.args.bytes.now l.room l.i _ l.invariant (omega arith) (omega arith) c.word_at.ensures
 
 pub returns : goal.returns
 returns c =
     let l = c.loop-i in
-    all_converted c.args.bytes.now l.room l.i l.invariant.converted (omega (arith, l.invariant.within, c.loop-i-test.false))
+    let bs = c.args.bytes.now in
+    let long : length l.room ≡ length bs / 4 = omega arith in
+    sym (take_all (length bs / 4) l.room (omega arith)) ∙ all_converted bs l.room l.i l.invariant (omega arith)

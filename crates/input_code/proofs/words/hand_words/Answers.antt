@@ -1,46 +1,40 @@
--- `hand_words`: the whole words of a piece handed over, through the room.
-use mathlib.Core.List.{[], foldl}
-use mathlib.Core.Path.{refl, sym, ◌∙◌, ap}
-use Prim.Native.Nat.{◌+◌, ◌*◌, ◌≤◌}
+-- `hand_words`: whole words handed over, as many at a time as the room holds.
+use mathlib.Core.List.{◌++◌, foldl, foldl-append}
+use mathlib.Core.Path.{◌≡◌, sym, ◌∙◌, ap}
+use Prim.Native.Nat.{ℕ, ◌+◌, ◌%◌}
 use native.Mathlib.Omega.{arith}
-use lib.ListN.{length, drop, length-drop}
-use Rattle.lists.proofs.Slices.{part_rest}
-use Rattle.batch.specs.Walk.{Walk}
-use Rattle.batch.specs.declared.Lengths.{Lengths}
+use lib.ListN.{length, length-append}
+use Rattle.std.specs.Prelude.{min}
+use Rattle.std.specs.Slice.Iter.{chunks_rest}
+use Rattle.batch.specs.Walk.{Walk, step}
 use Rattle.parts.specs.States.{walk_in}
-use Rattle.input.specs.Input.{body, feed}
-use Rattle.input_code.proofs.WordLaws.{words_on, few_held}
+use Rattle.input.specs.Line.{words_from}
+use Rattle.input_code.proofs.WordLaws.{words_append}
 use Rattle.input_code.proofs.words.hand_words.Goals as goal
 
-pub loop-at-preserved : goal.loop-at-preserved
-loop-at-preserved c =
-    let a = c.args in
-    let l = c.loop-at in
-    let n = c.words_at_once-n.result in
-    let few = c.words_at_once-n.ensures.0 in
-    let end = l.at + 4 * n in
-    let h = c.hand_chunk-state in
-    let left = c.loop-at-test.true in
-    let before = l.invariant.within in
-    let within : end ≤ length a.piece.now = omega arith in
+pub loop-bytes-preserved : goal.loop-bytes-preserved
+loop-bytes-preserved c =
+    let l = c.loop-bytes in
+    let v = l.invariant in
+    let h = c.hand_chunk-next in
+    let steps = c.in-Some.ensures.steps in
+    let bytes = c.in-Some.bytes.now in
+    let rest = chunks_rest l.bytes-iterator in
+    let left = chunks_rest c.next.new.self in
+    let parts : rest ≡ bytes ++ left = steps.1.0 in
+    let size : length bytes ≡ min 16384 (length rest) = steps.1.1 ∙ ap (λ (n : ℕ). min n (length rest)) v.size in
+    let all : length rest ≡ length bytes + length left = ap length parts ∙ length-append bytes left in
+    let some : length bytes % 4 ≡ 0 = omega (arith, v.whole) in
     record {
-      within = within;
-      same_length = h.auto.room ∙ l.invariant.same_length;
-      same_lengths = h.ensures.1 ∙ l.invariant.same_lengths;
-      fed =
-          ap (λ (w : Walk). foldl feed (body a.state.lengths w []) (drop end a.piece.now)) h.ensures.0
-          ∙ sym (words_on a.state.lengths (walk_in l.state) a.piece.now l.at n end refl within)
-          ∙ l.invariant.fed;
+      next = omega (arith, v.size, steps.0);
+      ends = tt;
+      size = steps.0 ∙ v.size;
+      room = h.auto.room ∙ v.room;
+      whole = omega (arith, v.whole);
+      lengths = h.ensures.1 ∙ v.lengths;
+      walk =
+          ap (λ (w : Walk). foldl step w (words_from left)) h.ensures.0
+          ∙ sym (foldl-append step (walk_in l.next) (words_from bytes) (words_from left))
+          ∙ ap (foldl step (walk_in l.next)) (sym (words_append bytes left some) ∙ ap words_from (sym parts))
+          ∙ v.walk;
     }
-
-pub returns : goal.returns
-returns c =
-    let l = c.loop-at in
-    let a = c.args in
-    let few = c.loop-at-test.false in
-    let len = length-drop l.at a.piece.now in
-    c.hold.ensures
-    ∙ ap (body l.state.lengths (walk_in l.state)) (part_rest l.at a.piece.now)
-    ∙ ap (λ (x : Lengths). body x (walk_in l.state) (drop l.at a.piece.now)) l.invariant.same_lengths
-    ∙ sym (few_held a.state.lengths (walk_in l.state) (drop l.at a.piece.now) (omega arith))
-    ∙ l.invariant.fed

@@ -1,19 +1,20 @@
--- `hand_words`: the whole words of a piece handed over, through the room.
-use Rattle.std.proofs.Common.{length, drop, ◌≡◌, ◌-◌, ◌≤◌}
-use mathlib.Core.List.{[], foldl}
+-- `hand_words`: whole words handed over; the loop has handed over those before what the iterator has left.
+use Rattle.std.proofs.Common.{length, ◌≡◌, ◌%◌}
+use Rattle.std.specs.Slice.Iter.{chunks_rest, chunks_size}
+use mathlib.Core.List.{foldl}
+use Rattle.batch.specs.Walk.{step}
 use Rattle.parts.specs.States.{walk_in}
-use Rattle.input.specs.Input.{body, feed}
+use Rattle.input.specs.Line.{words_from}
 use Rattle.input_code.proofs.words.hand_words.Given as goal
 
-abbrev pub invariant-loop-at : goal.invariant-loop-at
-invariant-loop-at l =
+abbrev pub invariant-loop-bytes : goal.invariant-loop-bytes
+invariant-loop-bytes l =
     record {
-      within : l.at ≤ length l.piece;
-      same_length : length l.room ≡ length l.initial.room;
-      same_lengths : l.state.lengths ≡ l.initial.state.lengths;
-      fed : foldl feed (body l.initial.state.lengths (walk_in l.state) []) (drop l.at l.piece)
-          ≡ foldl feed (body l.initial.state.lengths (walk_in l.initial.state) []) l.piece;
+      next : goal.iterator-loop-bytes.can_next l.bytes-iterator;
+      ends : goal.iterator-loop-bytes.is_finite l.bytes-iterator;
+      size : chunks_size l.bytes-iterator ≡ 16384;
+      room : length l.room ≡ 4096;
+      whole : length (chunks_rest l.bytes-iterator) % 4 ≡ 0;
+      lengths : l.next.lengths ≡ l.initial.next.lengths;
+      walk : foldl step (walk_in l.next) (words_from (chunks_rest l.bytes-iterator)) ≡ foldl step (walk_in l.initial.next) (words_from l.words);
     }
-
-abbrev pub decreases-loop-at : goal.decreases-loop-at
-decreases-loop-at l = length l.piece - l.at

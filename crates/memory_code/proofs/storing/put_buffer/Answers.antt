@@ -7,4 +7,4 @@ use Rattle.memory_code.proofs.storing.put_buffer.Goals as goal
 pub loop-i-preserved : goal.loop-i-preserved
 loop-i-preserved c = let l = c.loop-i in
     let a = c.args in
-    (search rules, copied_one a.memory.now a.buffer l.i l.memory _ (search rules) (search rules) refl l.invariant.1)
+    copied_one a.memory.now a.buffer l.i l.memory _ (search rules) (search rules) refl l.invariant

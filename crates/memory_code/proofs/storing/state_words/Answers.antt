@@ -20,7 +20,7 @@ returns c =
     let grid = picture.1.1.1.0.1.1 in
     let position = progress.1.1.1.0.1.1 in
     let previous = progress.1.1.1.1.0.1.1 in
-    let buffer = state.1.1.1.1.1.1.1.0 in
+    let buffer = state.1.1.1.1.1.0 in
     record {
       width = frame.0.1;
       height = frame.1.0.1;
@@ -41,7 +41,7 @@ returns c =
       seven = previous.1.1.1.0.1;
       eight = previous.1.1.1.1.0.1;
       at = state.1.0.1;
-      number = state.1.1.1.1.0.1;
+      number = c.put_own.ensures.1;
       held_words = buffer.1.0.1;
       buffer = λ i. (elem_Fits w32 w32 c.args.state.buffer buffer.0 i buffer.1.1 tt).fits;
     } in
@@ -49,5 +49,5 @@ returns c =
     let words : c.put_lengths.new.memory ≡ state_words s =
     c.put_lengths.ensures
     ∙ ap (placed (lengths_fields s.lengths))
-    (c.put_own.ensures ∙ ap (placed (own_fields s)) (c.put_progress.ensures ∙ ap (placed (progress_fields s.progress)) c.put_buffer.ensures)) in
+    (c.put_own.ensures.0 ∙ ap (placed (own_fields s)) (c.put_progress.ensures ∙ ap (placed (progress_fields s.progress)) c.put_buffer.ensures)) in
     (words, ap state_in words ∙ stored_read s fitting)

@@ -1,23 +1,20 @@
 -- `ask`: the fault of the stored sheets, or the sheet that was found.
-use mathlib.Core.Path.{sym, ap, ◌∙◌}
-use Rattle.answers.specs.declared.Answer.{Answer}
-use Rattle.mounts.specs.Editions.{newest}
-use Rattle.mounts.specs.Mounts.{found_or_none, unless_fault, asked}
-use Rattle.mounts.specs.Sheets.{sheets_in}
+use mathlib.Core.Path.{refl, sym, ◌∙◌}
+use native.Mathlib.Omega.{arith}
+use Rattle.std.proofs.lemmas.Result.{err_from_is_err_and}
+use Rattle.mounts_code.proofs.Judged.{fault_stored, found_sound}
+use Rattle.mounts.specs.Mounts.{asked}
 use Rattle.mounts_code.proofs.asking.ask.Goals as goal
 
-pub returns-in-Refused : goal.returns-in-Refused
+pub returns-in_err-newest : goal.returns-in_err-newest
 unfolding asked
-returns-in-Refused c =
-    let a = c.args in
-    ap (λ (f : Answer). unless_fault f (found_or_none (newest a.boat a.edition (sheets_in a.count a.sheets.now))))
-    (sym c.in-Refused.is ∙ c.judge-judged.ensures.answer_value)
+returns-in_err-newest c =
+    let p = err_from_is_err_and c.from_residual.result c.from_residual.ensures.1 in
+    let bad = fault_stored _ _ _ (sym c.judge.ensures ∙ c.in_err-newest.was) in
+    rw (p.1, p.2, bad) refl
 
 pub returns : goal.returns
 unfolding asked
 returns c =
-    let a = c.args in
-    let accepted = c.in_default.is in
-    c.found_or_none.ensures
-    ∙ ap found_or_none (c.judge-judged.ensures.newest_after accepted)
-    ∙ ap (λ (f : Answer). unless_fault f (found_or_none (newest a.boat a.edition (sheets_in a.count a.sheets.now)))) (sym accepted ∙ c.judge-judged.ensures.answer_value)
+    let sound = found_sound _ _ _ (sym c.judge.ensures ∙ c.in_ok-newest.was) in
+    rw (sound.0, ← sound.1) (grind arith)

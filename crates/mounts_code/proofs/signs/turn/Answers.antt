@@ -1,22 +1,18 @@
 -- `turn`: x alone is turned, and on port alone.
-use Rattle.std.proofs.lemmas.Bool.{lt-leb, le-leb, eq-eqb, ne_eqb}
-use Rattle.std.proofs.Common.{rules, ◌≡◌, w16, to_z, of_z}
-use mathlib.Core.Path.{ap₂, ◌∙◌}
-use Rattle.mounts.specs.Signs.{on_port, vector_on}
+use Prim.Native.Nat.{◌<◌}
+use native.Mathlib.Omega.{arith}
+use borrow.Author.Tests.{lt-leb}
+use Rattle.mounts.specs.Signs.{vector_on}
 use Rattle.mounts_code.proofs.signs.turn.Goals as goal
 
-pub returns-then-side-gt1 : goal.returns-then-side-gt1
+pub returns-in-0 : goal.returns-in-0
 unfolding vector_on
-returns-then-side-gt1 c = simp (lt-leb _ _ c.if-side-gt1.true)
+returns-in-0 c = simp c.in-0.is
 
-pub returns-then-side-eq0 : goal.returns-then-side-eq0
+pub returns-in-1 : goal.returns-in-1
 unfolding vector_on
-returns-then-side-eq0 c = simp (le-leb _ _ c.if-side-gt1.false, eq-eqb _ _ c.if-side-eq0.true)
+returns-in-1 c = simp c.in-1.is c.on_port.ensures
 
-pub returns : goal.returns
+pub returns-in_default : goal.returns-in_default
 unfolding vector_on
-returns c =
-    let v = c.args.shift in
-    let x : to_z w16 (of_z w16 v.x) ≡ v.x = search rules in
-    let y : to_z w16 (of_z w16 v.y) ≡ v.y = search rules in
-    c.on_port.ensures ∙ ap₂ on_port x y ∙ simp (le-leb _ _ c.if-side-gt1.false, ne_eqb _ _ c.if-side-eq0.false)
+returns-in_default c = let above : 1 < c.args.side = omega arith in simp (lt-leb _ _ above)

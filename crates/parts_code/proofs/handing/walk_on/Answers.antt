@@ -1,6 +1,6 @@
 -- `walk_on`: on from the beginning of the command in progress, whose words so far are the first of these words.
 use mathlib.Core.Path.{◌≡◌, refl}
-use Prim.Native.Nat.{◌-◌, ◌≤◌}
+use Prim.Native.Nat.{◌+◌, ◌-◌, ◌≤◌}
 use native.Mathlib.Nat.{zero-add}
 use native.Mathlib.Omega.{arith}
 use borrow.Author.Rules.{rules}
@@ -13,40 +13,37 @@ use Rattle.parts_code.proofs.handing.walk_on.Goals as goal
 
 pub offset_bounds-words-used : goal.offset_bounds-words-used
 offset_bounds-words-used c =
-    let left = rest c.args.state.at c.args.state.progress c.args.words.now c.walk.result _ _ (search rules) c.walk.ensures c.in-Going.is in
+    let left = rest c.args.state.at c.args.state.progress c.args.words.now c.walk.result _ _ (search rules) c.walk.ensures c.in-Ok.is in
     omega (arith, left.within, c.well_formed.1.0.1)
 
 pub slice_bounds-append-count : goal.slice_bounds-append-count
-slice_bounds-append-count c = (rest c.args.state.at c.args.state.progress c.args.words.now c.walk.result _ _ (search rules) c.walk.ensures c.in-Going.is).within
+slice_bounds-append-count c = (rest c.args.state.at c.args.state.progress c.args.words.now c.walk.result _ _ (search rules) c.walk.ensures c.in-Ok.is).within
 
 pub slice_bounds-append-start : goal.slice_bounds-append-start
-slice_bounds-append-start c = (rest c.args.state.at c.args.state.progress c.args.words.now c.walk.result _ _ (search rules) c.walk.ensures c.in-Going.is).within
-
-pub append-buffer-requires : goal.append-buffer-requires
-append-buffer-requires c =
-    let left = rest c.args.state.at c.args.state.progress c.args.words.now c.walk.result _ _ (search rules) c.walk.ensures c.in-Going.is in
-    let few = left.few in
-    rw (part_rest c.in-Going.used c.args.words.now, length-drop) (omega arith)
+slice_bounds-append-start c = (rest c.args.state.at c.args.state.progress c.args.words.now c.walk.result _ _ (search rules) c.walk.ensures c.in-Ok.is).within
 
 pub overflow_cast-begins : goal.overflow_cast-begins
 overflow_cast-begins c =
-    let left = rest c.args.state.at c.args.state.progress c.args.words.now c.walk.result _ _ (search rules) c.walk.ensures c.in-Going.is in
+    let left = rest c.args.state.at c.args.state.progress c.args.words.now c.walk.result _ _ (search rules) c.walk.ensures c.in-Ok.is in
     omega (arith, left.low)
 
 pub overflow_add-begins : goal.overflow_add-begins
 overflow_add-begins c =
-    let left = rest c.args.state.at c.args.state.progress c.args.words.now c.walk.result _ _ (search rules) c.walk.ensures c.in-Going.is in
+    let left = rest c.args.state.at c.args.state.progress c.args.words.now c.walk.result _ _ (search rules) c.walk.ensures c.in-Ok.is in
     omega (arith, left.low)
 
 pub overflow_sub-left : goal.overflow_sub-left
-overflow_sub-left c = (rest c.args.state.at c.args.state.progress c.args.words.now c.walk.result _ _ (search rules) c.walk.ensures c.in-Going.is).within
+overflow_sub-left c = (rest c.args.state.at c.args.state.progress c.args.words.now c.walk.result _ _ (search rules) c.walk.ensures c.in-Ok.is).within
 
-pub returns-in-Going : goal.returns-in-Going
+pub returns-in-Ok : goal.returns-in-Ok
 unfolding walk_in gathered
-returns-in-Going c =
-    let used = c.in-Going.used in
+returns-in-Ok c =
+    let used = c.in-Ok.taken.used in
     let ws = c.args.words.now in
     let low : c.args.state.at ≤ limit = search rules in
+    let left = rest c.args.state.at c.args.state.progress ws c.walk.result _ used low c.walk.ensures c.in-Ok.is in
+    let few = left.few in
+    let room : 0 + length (take (length ws - used) (drop used ws)) ≤ 61 = rw (part_rest used ws, length-drop) (omega arith) in
     let stored : take (length ws - used) c.append-buffer.result ≡ drop used ws =
-    rw (part_rest used ws, length-drop, zero-add) at c.append-buffer.ensures.0 in
-    (rest_kept c.args.state.at c.args.state.progress ws c.walk.result _ used low c.walk.ensures c.in-Going.is c.append-buffer.result stored, refl)
+    rw (part_rest used ws, length-drop, zero-add) at (c.append-buffer.ensures.front room) in
+    (rest_kept c.args.state.at c.args.state.progress ws c.walk.result _ used low c.walk.ensures c.in-Ok.is c.append-buffer.result stored, refl)

@@ -2,6 +2,7 @@
 use mathlib.Core.Path.{◌≡◌, sym, ap}
 use Prim.Native.Nat.{◌≤◌, ◌<◌}
 use native.Mathlib.Omega.{arith}
+use borrow.Author.Rules.{rules}
 use lib.ListN.{length}
 use Rattle.headers.specs.Words.{word_at}
 use Rattle.headers.proofs.HeaderLaws.{words_few}
@@ -32,5 +33,5 @@ returns-then-state-held-gt4294967295 c =
 
 pub returns : goal.returns
 returns c =
-    let long : length c.args.state.buffer ≡ 61 = c.well_formed.0.1.1.1.1.1.1.1.1.1.0.1.0.1 in
+    let long : length c.args.state.buffer ≡ 61 = search rules in
     (held_count c.args.state c.if-state.false long (fewer c.before).0 c.if-state-held-gt4294967295.false, (fewer c.before).1)

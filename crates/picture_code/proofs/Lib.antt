@@ -1,2 +1,0 @@
--- for this crate alone
-mod Congruence
