@@ -40,6 +40,7 @@ fn walk_within(progress: Progress, base: u32, words: &[u32]) -> Result<Taken, Fa
             NextCommand::Incomplete => break,
             NextCommand::Whole(header, n) => {
                 let end = at + n;
+                // A `match`: of `map_err` and its closure the check does not find what the call asks for.
                 match sequence_code::judge(header, p, &words[at..end]) {
                     Ok(next) => {
                         p = next;

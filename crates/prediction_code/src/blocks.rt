@@ -99,6 +99,7 @@ pub fn block_at(
     if !spans::inside(luma_rows(structure), position.row, grid.rows, y) {
         return None;
     }
+    // A `match`: with `?` in its place the check does not find the answer.
     match Displaced::new(structure, position, vector) {
         Some(block) => Some(block.extent(surface)),
         None => None,
