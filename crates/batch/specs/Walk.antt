@@ -61,9 +61,9 @@ start = going 0 fresh []
 -- What a run of words `ws` from word `base` came to, as a walk: whole commands took the first words, the others are in progress.
 abbrev pub walk_of : ℕ → List ℕ → Walked → Walk
 walk_of base ws (Err f) = stopped f.number f.place
-walk_of base ws (Ok f) = going (base + f.used) f.progress (drop f.used ws)
+walk_of base ws (Ok t) = going (base + t.used) t.progress (drop t.used ws)
 
 -- Document 01's number and place of what a run of words came to: 0 where nothing is refused yet.
 abbrev pub walked_answer : Walked → Answer
 walked_answer (Err f) = Err f
-walked_answer (Ok f) = Accepted
+walked_answer (Ok t) = Accepted

@@ -3,13 +3,14 @@
 use mathlib.Core.Bool.{Bool, true, false, cond}
 use mathlib.Core.List.{List, [], ◌∷◌, ◌++◌, append_assoc, append-nil}
 use mathlib.Core.Path.{◌≡◌, refl, sym, ◌∙◌, ap, subst}
-use Prim.Native.Nat.{ℕ, zero, suc, ◌+◌, ◌≤◌, ◌<◌}
+use Prim.Native.Nat.{ℕ, zero, suc, ◌+◌, ◌-◌, ◌≤◌, ◌<◌}
 use native.Mathlib.Nat.{not-suc-le-zero}
 use native.Mathlib.Omega.{arith}
 use borrow.Author.Tests.{eqb-true, eqb-false, ltb-true, ltb-false}
 use lib.Dec.{eqb, ltb}
 use lib.ListN.{length, take, drop, length-append, length-drop, take-append-drop}
 use lib.Seq.{length-take-le}
+use Rattle.lists.proofs.Slices.{part_rest}
 use Rattle.headers.specs.Headers.{table, look_up, header_of, words_in}
 use Rattle.headers.specs.Words.{word_at}
 use Rattle.headers.specs.declared.Header.{Header}
@@ -108,3 +109,11 @@ whole_fits at ws h n l e =
     let len = length-drop at ws in
     let fits : (1 ≤ n) × (n ≤ length (drop at ws)) = subst (Fits (length (drop at ws))) e (next_fits (drop at ws)) in
     (fits.0, omega (arith, fits.1))
+
+-- What a function that is asked of the words from a place on answers is what stands there; and a whole command there has some words, all of them given.
+pub next_there : (at : ℕ) (ws : List ℕ) (r x : NextCommand) → r ≡ next_in (take (length ws - at) (drop at ws)) → r ≡ x → x ≡ next_in (drop at ws)
+next_there at ws r x e i = sym i ∙ e ∙ ap next_in (part_rest at ws)
+
+pub whole_there : (at : ℕ) (ws : List ℕ) (r : NextCommand) (h : Header) (n : ℕ) → at ≤ length ws
+    → r ≡ next_in (take (length ws - at) (drop at ws)) → r ≡ Whole h n → (1 ≤ n) × (at + n ≤ length ws)
+whole_there at ws r h n m e i = whole_fits at ws h n m (sym (next_there at ws r _ e i))

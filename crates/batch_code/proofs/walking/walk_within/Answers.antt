@@ -14,23 +14,13 @@ use Rattle.progress.specs.declared.Taken.{Taken}
 use Rattle.sequence.specs.Judging.{judge}
 use Rattle.sequence.proofs.JudgingLaws.{stops_within}
 use Rattle.commands.specs.Commands.{next_in}
-use Rattle.commands.specs.declared.NextCommand.{NextCommand}
 use Rattle.commands.specs.declared.NextCommand.TheVariants.{Whole}
-use Rattle.commands.proofs.Gathering.{whole_fits}
+use Rattle.commands.proofs.Gathering.{next_there, whole_there}
 use Rattle.batch.specs.Walk.{going, limit, step, after}
 use Rattle.batch.proofs.WalkLaws.{stays}
 use Rattle.batch_code.proofs.RowTurn.{turn_row}
 use Rattle.batch_code.proofs.Turns.{turn_next, turn_zero, turn_behind}
 use Rattle.batch_code.proofs.walking.walk_within.Goals as goal
-
--- what stands at `at`
-there : (at : ℕ) (ws : List ℕ) (r x : NextCommand) → r ≡ next_in (take (length ws - at) (drop at ws)) → r ≡ x → x ≡ next_in (drop at ws)
-there at ws r x e i = sym i ∙ e ∙ ap next_in (part_rest at ws)
-
--- a whole command has some words, and they are there
-fits : (at : ℕ) (ws : List ℕ) (r : NextCommand) (h : Header) (n : ℕ) → at ≤ length ws
-    → r ≡ next_in (take (length ws - at) (drop at ws)) → r ≡ Whole h n → (1 ≤ n) × (at + n ≤ length ws)
-fits at ws r h n m e i = whole_fits at ws h n m (sym (there at ws r _ e i))
 
 -- what the words come to, by the verdict on that command
 judged_there : (base at : ℕ) (p : Progress) (ws : List ℕ) (h : Header) (n : ℕ) (v : Verdict) → p.stage.ended ≡ false → base + length ws ≤ limit
@@ -72,24 +62,24 @@ loop-at-preserved-then-row-ne0 c =
 pub returns-in-Unknown : goal.returns-in-Unknown
 returns-in-Unknown c =
     let l = c.loop-at in
-    let x = there l.at c.args.words.now _ _ c.next_command.ensures c.in-Unknown.is in
+    let x = next_there l.at c.args.words.now _ _ c.next_command.ensures c.in-Unknown.is in
     sym (l.invariant.so_far ∙ turn_next c.args.base l.at l.p c.args.words.now _ c.if-p.false c.requires l.invariant.within x)
 
 pub overflow_add-end : goal.overflow_add-end
-overflow_add-end c = omega (arith, fits _ _ _ _ _ c.loop-at.invariant.within c.next_command.ensures c.in-Whole.is)
+overflow_add-end c = omega (arith, whole_there _ _ _ _ _ c.loop-at.invariant.within c.next_command.ensures c.in-Whole.is)
 
 pub slice_bounds-judge-end : goal.slice_bounds-judge-end
-slice_bounds-judge-end c = omega (arith, fits _ _ _ _ _ c.loop-at.invariant.within c.next_command.ensures c.in-Whole.is)
+slice_bounds-judge-end c = omega (arith, whole_there _ _ _ _ _ c.loop-at.invariant.within c.next_command.ensures c.in-Whole.is)
 
 pub loop-at-smaller : goal.loop-at-smaller
-loop-at-smaller c = omega (arith, fits _ _ _ _ _ c.loop-at.invariant.within c.next_command.ensures c.in-Whole.is)
+loop-at-smaller c = omega (arith, whole_there _ _ _ _ _ c.loop-at.invariant.within c.next_command.ensures c.in-Whole.is)
 
 pub loop-at-preserved : goal.loop-at-preserved
 unfolding after
 loop-at-preserved c =
     let l = c.loop-at in
-    let x = there l.at c.args.words.now _ _ c.next_command.ensures c.in-Whole.is in
-    let f = fits _ _ _ _ _ l.invariant.within c.next_command.ensures c.in-Whole.is in
+    let x = next_there l.at c.args.words.now _ _ c.next_command.ensures c.in-Whole.is in
+    let f = whole_there _ _ _ _ _ l.invariant.within c.next_command.ensures c.in-Whole.is in
     let j = judged_there c.args.base l.at l.p c.args.words.now c.in-Whole.header c.in-Whole.n _ c.if-p.false c.requires l.invariant.within x (sym c.judge.ensures ∙ c.in-Ok.is) in
     record { within = f.1; so_far = l.invariant.so_far ∙ j }
 
@@ -102,12 +92,12 @@ pub returns-in-Err : goal.returns-in-Err
 unfolding after
 returns-in-Err c =
     let l = c.loop-at in
-    let x = there l.at c.args.words.now _ _ c.next_command.ensures c.in-Whole.is in
+    let x = next_there l.at c.args.words.now _ _ c.next_command.ensures c.in-Whole.is in
     let j = judged_there c.args.base l.at l.p c.args.words.now c.in-Whole.header c.in-Whole.n _ c.if-p.false c.requires l.invariant.within x (sym c.judge.ensures ∙ c.in-Err.is) in
     sym (l.invariant.so_far ∙ j ∙ stays _ _ (drop (l.at + c.in-Whole.n) c.args.words.now))
 
 pub returns-in-Incomplete : goal.returns-in-Incomplete
 returns-in-Incomplete c =
     let l = c.loop-at in
-    let x = there l.at c.args.words.now _ _ c.next_command.ensures c.in-Incomplete.is in
+    let x = next_there l.at c.args.words.now _ _ c.next_command.ensures c.in-Incomplete.is in
     sym (l.invariant.so_far ∙ turn_next c.args.base l.at l.p c.args.words.now _ c.if-p.false c.requires l.invariant.within x)
