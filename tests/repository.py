@@ -44,6 +44,7 @@ def main(root, log):
         'laws and proofs above prediction': laws.check_unfolding(root, faults),
         'abbreviations of prediction': laws.check_open(root, faults),
         'functions between a word and its components': contracts.check_halves(root, faults),
+        'words and components handed on': contracts.check_handed(root, faults),
         'tables': documents.check_tables(root, faults),
         'files': documents.check_paths(root, faults),
     }

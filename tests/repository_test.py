@@ -387,11 +387,32 @@ class Contracts(Tree):
             self.refuses(check, fault)
         write('n.saturating_sub(1) as u32')
         self.passes(check, 2)
+        # Where a component may be meant, what the method does to one counts: of an i16 it calls what is not looked at.
+        write('{ let x: i16 = 1; x.saturating_sub(n as i16) as u32 }')
+        self.refuses(check, 'wide calls saturating_sub, which is not looked at')
         halves['crates/one_code/src/lib.rt'] = {'wide'}
         self.write('crates/one_code/src/lib.rt', 'fn wide(n: u8) -> u32 {\n    n as u32 % 9\n}\n\nfn other()\n{\n}\n')
         self.refuses(check, 'wide has a %')
         self.write('crates/one_code/src/lib.rt', '// fn wide(n: u8)\n')
         self.refuses(check, 'was not found')
+
+
+    def test_handed(self):
+        def write(body):
+            self.write('crates/one_code/src/lib.rt', BASE['crates/one_code/src/lib.rt'].replace('    n as u32', f'    {body}'))
+
+        for right in ('let vector = vector_of(word); biased(vector.x)', 'biased(vector.y)', 'vector_of(n)'):
+            write(right)
+            self.passes(contracts.check_handed, right.count('('))
+        for wrong in (
+            'vector_of(word / 1)',
+            'let vector = vector_of(word); biased(vector.x / 1)',
+            'let vector = vector_of(word); let vector = Vector { x: vector.x / 1, y: vector.y }; biased(vector.x)',
+            'biased(halves.low)',
+            'biased(f(vector.x))',
+        ):
+            write(wrong)
+            self.refuses(contracts.check_handed, 'something else than stands there')
 
 
 class Exports(Tree):

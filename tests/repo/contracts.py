@@ -122,35 +122,52 @@ HALVES = {
 }
 
 
-def std_bodies(name):
-    """What std's method of a name does to the integers that a word is taken apart into, as the kit's own source says."""
+def std_bodies(name, signed):
+    """What std's method of a name does to the integers that a word is taken apart into, as the kit's own source says: to those without a sign, and
+    where a component may be meant to those with one too, since a text shows no type."""
     kit = pathlib.Path(subprocess.run(['rt', 'doc'], capture_output=True, text=True, check=True).stdout.strip()).parent
-    for kinds in (('u8', 'u16', 'u32'), ('i16',)):
-        bodies = []
-        for kind in kinds:
-            code = code_of((kit / 'rattle/core/src/int' / f'{kind}.rt').read_text(), '.rt')
-            if found := re.search(rf'\bfn {name}\(', code):
-                start = rattle.body_of(code, found.end())
-                bodies.append(code[start:rattle.closing(code, start)])
-        if bodies:
-            return bodies
-    return []
+    bodies = []
+    for kind in ('u8', 'u16', 'u32', *(('i16',) if signed else ())):
+        code = code_of((kit / 'rattle/core/src/int' / f'{kind}.rt').read_text(), '.rt')
+        if found := re.search(rf'\bfn {name}\(', code):
+            start = rattle.body_of(code, found.end())
+            bodies.append(code[start:rattle.closing(code, start)])
+    return bodies
+
+
+def check_handed(root, faults):
+    """Document 02, R-2, where a word's vector is used: `vector_of` is handed a word as it stands, and `biased` a component of a vector as it stands.
+    The vector is a parameter, or what `vector_of` gave, and nothing else under its name."""
+    count = 0
+    for crate in libraries(root):
+        for f in rattle.functions(crate):
+            for call in re.finditer(r'\b(vector_of|biased)\(', f.body):
+                count += 1
+                handed = f.body[call.end():f.body.find(')', call.end())].strip()
+                vector, _, component = handed.partition('.')
+                bound = re.findall(rf'\b{vector}\b[^=;]*=(?!=)\s*([^;]*);', f.body) if re.fullmatch(r'\w+', vector) else ['']
+                if not re.fullmatch(r'\w+', handed) if call[1] == 'vector_of' else component not in ('x', 'y') or any(
+                        not re.fullmatch(r'vector_of\(\w+\)', value) for value in bound):
+                    faults.append(f'crates/{crate.name}/{f.file}: {f.called()} hands {call[1]} something else than stands there: {handed}')
+    return count
 
 
 def check_halves(root, faults, halves=HALVES):
     """Document 02, R-2: shifts and masks only. The compiler turns a division by a power of two into a shift, so that only the text shows it."""
-    between = []
+    between, signed = [], set()
     for path, wanted in halves.items():
         code = code_of((root / path).read_text(), '.rt')
         found = [f for f in rattle.functions_in(code, path, []) if wanted is None or f.name in wanted]
         if not found or (wanted or set()) - {f.name for f in found}:
             faults.append(f'{path}: a function between a vector word and its components was not found')
         between.extend(found)
+        if re.search(r'\b(?:i16|Vector)\b', code):
+            signed.add(path)
     for f in between:
         if sign := re.search(r'[*/%]', f.body):
             faults.append(f'{f.file}: {f.name} has a {sign[0]}')
         for called in sorted(set(re.findall(r'(\w+)\(', f.body)) - {other.name for other in between}):
-            bodies = std_bodies(called) if f'.{called}(' in f.body else []
+            bodies = std_bodies(called, f.file in signed) if f'.{called}(' in f.body else []
             if not bodies or any(re.search(r'\w\(', body) for body in bodies):
                 faults.append(f'{f.file}: {f.name} calls {called}, which is not looked at')
             elif sign := re.search(r'[*/%]', ''.join(bodies)):

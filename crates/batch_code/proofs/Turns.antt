@@ -1,6 +1,6 @@
 -- The turns of the loop of `walk_within`, and what `walk` does with the words beyond the limit.
 use mathlib.Core.List.{List, [], ◌∷◌, foldl, foldl-append}
-use mathlib.Core.Bool.{Bool, true, false}
+use mathlib.Core.Bool.{Bool, true, false, not}
 use mathlib.Core.Path.{◌≡◌, refl, sym, ◌∙◌, ap}
 use Prim.Native.Nat.{ℕ, ◌+◌, ◌-◌, ◌≤◌, ◌<◌}
 use native.Mathlib.Nat.{add_assoc, add-zero}
@@ -12,7 +12,8 @@ use lib.Seq.{drop-cons, drop-drop, length-take-le}
 use Rattle.headers.specs.Headers.{table, look_up, header_of}
 use Rattle.headers.specs.Words.{word_at}
 use Rattle.progress.specs.declared.Progress.{Progress}
-use Rattle.sequence.specs.Judging.{judge}
+use Rattle.headers.specs.declared.Header.TheVariants.{Carried}
+use Rattle.sequence.specs.Judging.{judge, rules_of, next_of}
 use Rattle.sequence.proofs.SequenceLaws.{noop_passes}
 use Rattle.commands.specs.Commands.{next_in, by_next}
 use Rattle.commands.specs.declared.NextCommand.{NextCommand}
@@ -65,6 +66,11 @@ module _ (base at : ℕ) (p : Progress) (ws : List ℕ) (l : base + length ws �
       first_word
       ∙ simp (add-zero, lt-leb limit (base + at) (omega arith), e, ne_eqb (word_at ws at) 0 z)
       (stays 12 (base + at) (drop (at + 1) ws))
+
+-- Before the first group a carried command changes nothing.
+pub carried_passes : (n : ℕ) (p : Progress) (ws : List ℕ) → not p.stage.grouped ≡ true → judge (Carried n) p ws ≡ Ok p
+unfolding judge rules_of next_of
+carried_passes n p ws e = rw e refl
 
 -- at the end of the run nothing is left
 pub finished : (base at : ℕ) (p : Progress) (ws : List ℕ) → length ws ≤ at

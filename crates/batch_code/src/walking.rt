@@ -5,7 +5,7 @@ ghost use Rattle.batch.specs.Walk.{limit, going, step, walk_of};
 
 use answers::Fault;
 use commands::NextCommand;
-use headers::MACROBLOCK_HEADER;
+use headers::{Header, MACROBLOCK_HEADER};
 use progress::{Progress, Taken};
 
 // A run of words that ends within the words that are judged. Commands are judged where they stand. A zero word is passed over at
@@ -40,6 +40,14 @@ fn walk_within(progress: Progress, base: u32, words: &[u32]) -> Result<Taken, Fa
             NextCommand::Incomplete => break,
             NextCommand::Whole(header, n) => {
                 let end = at + n;
+                // Before the first group a carried command changes nothing. It is passed over at once, as a zero word is: handed on by the judge, the
+                // progress would be another to the compiler, which makes what a row needs of it anew.
+                if let Header::Carried(_) = header {
+                    if !p.stage.grouped {
+                        at = end;
+                        continue;
+                    }
+                }
                 // A `match`: of `map_err` and its closure the check does not find what the call asks for.
                 match sequence_code::judge(header, p, &words[at..end]) {
                     Ok(next) => {

@@ -8,7 +8,9 @@ use std::rt::Files;
 // The refusal of stored sheets that are damaged.
 const DAMAGED: u8 = 20;
 
-// Prints a line for each sheet, of one boat or of all, and last how many there were.
+// Prints a line for each sheet, of one boat or of all, and last how many there were. Not inlined, so that what it gathers is on the stack of a
+// listing alone.
+#[inline(never)]
 fn print_sheets(rt: &impl Print, sheets: &[u8], boat: Option<u32>) -> io::Result<()> {
     let mut lines = Gathered::new();
     let mut listed: u64 = 0;

@@ -52,14 +52,19 @@ fn on_file(
     }
 }
 
+// A function of its own, since a function's arrays are filled with zeros when it is called: a shift has no file and fills no room.
+fn with_room(rt: &(impl Env + Files + Print + Eprint), path: &str) -> Result<(), Failure> {
+    let mut room = [0u8; FILE];
+    on_file(rt, path, &mut room)
+}
+
 fn run(rt: &(impl Env + Files + Print + Eprint)) -> Result<(), Failure> {
     if arguments::is_shift(rt) {
         return shift(rt);
     }
     let mut name = [0u8; PATH];
     let path = arguments::path(rt, &mut name)?;
-    let mut room = [0u8; FILE];
-    on_file(rt, path, &mut room)
+    with_room(rt, path)
 }
 
 fn main(rt: HostRuntime) {

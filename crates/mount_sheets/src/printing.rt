@@ -11,7 +11,7 @@ const CAPACITY: usize = 65536;
 // The longest that a line of a list is.
 const LONGEST: usize = 32;
 
-// Lines of a list, printed together when there may be no room for another.
+// Lines of a list, printed together when there is no room for another.
 #[derive(Drop)]
 pub struct Gathered {
     lines: Cursor<[u8; CAPACITY]>,
@@ -25,10 +25,13 @@ impl Gathered {
     }
 
     pub fn put(&mut self, rt: &impl Print, line: impl fmt::Display + Drop) -> io::Result<()> {
-        if self.lines.position() as usize > CAPACITY - LONGEST {
+        let mut text = Cursor::new([0u8; LONGEST]);
+        text.writeln(line)?;
+        let len = text.position() as usize;
+        if len > CAPACITY.saturating_sub(self.lines.position() as usize) {
             self.print(rt)?;
         }
-        self.lines.writeln(line)
+        self.lines.write_all(&text.get_ref()[..len.min(LONGEST)])
     }
 
     // Prints what is gathered.

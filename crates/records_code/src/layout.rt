@@ -4,7 +4,7 @@ ghost use Rattle.fields.specs.Word.{packed};
 ghost use Rattle.records.specs.Records.{flag_fields, flags_of, recorded_kind, recorded_motion, record_of, macroblock_in};
 
 use crate::numbers::*;
-use fields_code::{bytes16, bytes32, flag_of, is_set, with_flag};
+use fields_code::{bytes16, flag_of, is_set, with_flag};
 use macroblock::{Flags, Macroblock, Motion};
 
 // The flags as the byte that holds them, and back.
@@ -56,8 +56,8 @@ pub(crate) fn record_of(macroblock: Macroblock) -> [u8; 24]
     record[TARGET_SIZE] = macroblock.target_size;
     record[QUANTISER] = macroblock.quantiser;
     record[FLAGS] = flags;
-    put(&mut record, BACKWARD, &bytes32(motion.backward));
-    put(&mut record, FORWARD, &bytes32(motion.forward));
+    put_halves(&mut record, BACKWARD, motion.backward);
+    put_halves(&mut record, FORWARD, motion.forward);
     put(&mut record, UPPER, &bytes16(macroblock.upper));
     put(&mut record, ROW, &bytes16(macroblock.row));
     put(&mut record, COLUMN, &bytes16(macroblock.column));

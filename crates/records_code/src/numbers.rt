@@ -1,7 +1,9 @@
 // Bytes and numbers of a record.
 ghost use Rattle.std.specs.Prelude.{◌≡◌, ◌≤◌, ◌+◌, length, get_or};
 ghost use Rattle.std.proofs.lemmas.List.Edits.{sets};
-ghost use Rattle.fields.specs.Bytes.{number_in, elements};
+ghost use Rattle.fields.specs.Bytes.{bytes_of, number_in, elements};
+
+use fields_code::{bytes16, halves_of};
 
 // The first byte of each part; specs/Layout.antt has them with their counts.
 pub(crate) const COLUMN: usize = 0;
@@ -65,4 +67,15 @@ pub(crate) fn put(bytes: &mut [u8; 24], i: usize, part: &[u8])
     ensures { bytes.new ≡ sets bytes.old i part.now }
 {
     bytes[i..i + part.len()].copy_from_slice(part);
+}
+
+// Puts a vector's word into a record by its halves, which a mask and a shift take apart (document 02, R-2). No `bytes32`: std's bytes of a word
+// are quotients and remainders.
+pub(crate) fn put_halves(bytes: &mut [u8; 24], i: usize, word: u32)
+    requires { i ≤ 20 }
+    ensures { bytes.new ≡ sets bytes.old i (bytes_of 4 word) }
+{
+    let halves = halves_of(word);
+    put(bytes, i, &bytes16(halves.low));
+    put(bytes, i + 2, &bytes16(halves.high));
 }

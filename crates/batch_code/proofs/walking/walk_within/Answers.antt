@@ -19,7 +19,7 @@ use Rattle.commands.proofs.Gathering.{next_there, whole_there}
 use Rattle.batch.specs.Walk.{going, limit, step, after}
 use Rattle.batch.proofs.WalkLaws.{stays}
 use Rattle.batch_code.proofs.RowTurn.{turn_row}
-use Rattle.batch_code.proofs.Turns.{turn_next, turn_zero, turn_behind}
+use Rattle.batch_code.proofs.Turns.{turn_next, turn_zero, turn_behind, carried_passes}
 use Rattle.batch_code.proofs.walking.walk_within.Goals as goal
 
 -- what the words come to, by the verdict on that command
@@ -73,6 +73,21 @@ slice_bounds-judge-end c = omega (arith, whole_there _ _ _ _ _ c.loop-at.invaria
 
 pub loop-at-smaller : goal.loop-at-smaller
 loop-at-smaller c = omega (arith, whole_there _ _ _ _ _ c.loop-at.invariant.within c.next_command.ensures c.in-Whole.is)
+
+pub loop-at-smaller-then-not-p : goal.loop-at-smaller-then-not-p
+loop-at-smaller-then-not-p c = omega (arith, whole_there _ _ _ _ _ c.loop-at.invariant.within c.next_command.ensures c.in-Whole.is)
+
+pub loop-at-preserved-then-not-p : goal.loop-at-preserved-then-not-p
+unfolding after
+loop-at-preserved-then-not-p c =
+    let l = c.loop-at in
+    let ws = c.args.words.now in
+    let n = c.in-Whole.n in
+    let x = next_there l.at ws _ _ c.next_command.ensures c.in-Whole.is in
+    let f = whole_there _ _ _ _ _ l.invariant.within c.next_command.ensures c.in-Whole.is in
+    let carried = ap (λ (h : Header). judge h l.p (take (l.at + n - l.at) (drop l.at ws))) c.in-Carried.is ∙ carried_passes c.in-Carried.field-0 l.p _ c.if-not-p.true in
+    let j = judged_there c.args.base l.at l.p ws c.in-Whole.header n _ c.if-p.false c.requires l.invariant.within x carried in
+    record { within = f.1; so_far = l.invariant.so_far ∙ j }
 
 pub loop-at-preserved : goal.loop-at-preserved
 unfolding after

@@ -20,13 +20,12 @@ pub returns : goal.returns
 returns c = let m = c.args.macroblock in
     let motion = c.motion_of-motion.ensures in
     let forward = c.motion_of-motion.result.forward in
-    let backward = c.motion_of-motion.result.backward in
     let recorded = recordable_numbers m.case in
-    put 0 (bytes_of 2 m.column) c.put-5.ensures c.bytes16-3.ensures
-    (put 2 (bytes_of 2 m.row) c.put-4.ensures c.bytes16-2.ensures
-    (put 4 (bytes_of 2 m.upper) c.put-3.ensures c.bytes16.ensures
-    (put 16 (bytes_of 4 forward) c.put-2.ensures c.bytes32-2.ensures
-    (put 20 (bytes_of 4 backward) c.put.ensures c.bytes32.ensures refl))))
+    put 0 (bytes_of 2 m.column) c.put-3.ensures c.bytes16-3.ensures
+    (put 2 (bytes_of 2 m.row) c.put-2.ensures c.bytes16-2.ensures
+    (put 4 (bytes_of 2 m.upper) c.put.ensures c.bytes16.ensures
+    (put 16 (bytes_of 4 forward) c.put_halves-2.ensures refl
+    c.put_halves.ensures)))
     ∙ spelled m
     (omega arith)
     (omega arith)
