@@ -401,18 +401,27 @@ class Contracts(Tree):
         def write(body):
             self.write('crates/one_code/src/lib.rt', BASE['crates/one_code/src/lib.rt'].replace('    n as u32', f'    {body}'))
 
-        for right in ('let vector = vector_of(word); biased(vector.x)', 'biased(vector.y)', 'vector_of(n)'):
+        for right in ('let vector = vector_of(word); biased(vector.x)', 'biased(vector.y)', 'vector_of(n)', 'halves_of(n)'):
             write(right)
             self.passes(contracts.check_handed, right.count('('))
         for wrong in (
             'vector_of(word / 1)',
             'let vector = vector_of(word); biased(vector.x / 1)',
-            'let vector = vector_of(word); let vector = Vector { x: vector.x / 1, y: vector.y }; biased(vector.x)',
+            'let vector = vector_of(word); let vector = turned(vector); biased(vector.x)',
             'biased(halves.low)',
             'biased(f(vector.x))',
+            'biased(vector.x) / 1',
+            'let word = word / 1; vector_of(word)',
+            'halves_of(word % 9)',
         ):
             write(wrong)
             self.refuses(contracts.check_handed, 'something else than stands there')
+        for wrong, fault in (
+            ('let v = vector_of(word); new(Vector { x: v.x / 1, y: v.y })', 'makes a vector by hand'),
+            ('put(bytes32(n))', 'has the bytes of a whole word'),
+        ):
+            write(wrong)
+            self.refuses(contracts.check_handed, fault)
 
 
 class Exports(Tree):

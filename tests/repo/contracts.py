@@ -135,20 +135,40 @@ def std_bodies(name, signed):
     return bodies
 
 
+# What takes a word apart or makes a number of a component: what it is handed has to stand there already.
+HANDED = re.compile(r'\b(halves_of|vector_of|biased)\(([^()]*)')
+
+# The one crate that has a whole word's bytes of std, which are quotients and remainders: a record's words are put into it by their halves.
+WHOLE_WORDS = {'fields_code', 'mounts_code'}
+
+
+def handed_fault(call, body):
+    """What speaks against a call of one of these: something else than a word or a component by its name, a name that is bound to something that is
+    computed with a product, a quotient or a remainder, or one of these in the statement around the call."""
+    name, _, component = call[2].strip().partition('.')
+    statement = re.split(r'[;{}]', body[:call.start()])[-1] + re.split(r'[;{}]', body[call.start():])[0]
+    bound = re.findall(rf'\b{name}\b[^=;]*=(?!=)\s*([^;]*);', body) if re.fullmatch(r'\w+', name) else ['/']
+    known = component in ('x', 'y') if call[1] == 'biased' else not component
+    if not known or re.search(r'[*/%]', statement) or any(re.search(r'[*/%]', value) for value in bound):
+        return True
+    return call[1] == 'biased' and any(not re.fullmatch(r'vector_of\(\w+\)', value) for value in bound)
+
+
 def check_handed(root, faults):
-    """Document 02, R-2, where a word's vector is used: `vector_of` is handed a word as it stands, and `biased` a component of a vector as it stands.
-    The vector is a parameter, or what `vector_of` gave, and nothing else under its name."""
+    """Document 02, R-2, where a vector's word or its components are used: `halves_of` and `vector_of` are handed a word as it stands and `biased` a
+    component of a vector, which is a parameter or what `vector_of` gave; no vector is made by hand on the way, and nothing is computed with them in
+    the same statement. A whole word's bytes are std's, and asked for where no vector is."""
     count = 0
     for crate in libraries(root):
         for f in rattle.functions(crate):
-            for call in re.finditer(r'\b(vector_of|biased)\(', f.body):
-                count += 1
-                handed = f.body[call.end():f.body.find(')', call.end())].strip()
-                vector, _, component = handed.partition('.')
-                bound = re.findall(rf'\b{vector}\b[^=;]*=(?!=)\s*([^;]*);', f.body) if re.fullmatch(r'\w+', vector) else ['']
-                if not re.fullmatch(r'\w+', handed) if call[1] == 'vector_of' else component not in ('x', 'y') or any(
-                        not re.fullmatch(r'vector_of\(\w+\)', value) for value in bound):
-                    faults.append(f'crates/{crate.name}/{f.file}: {f.called()} hands {call[1]} something else than stands there: {handed}')
+            where = f'crates/{crate.name}/{f.file}: {f.called()}'
+            calls = list(HANDED.finditer(f.body))
+            count += len(calls)
+            faults.extend(f'{where} hands {call[1]} something else than stands there: {call[2].strip()}' for call in calls if handed_fault(call, f.body))
+            if calls and re.search(r'\bVector \{', f.body) and f'crates/{crate.name}/{f.file}' not in HALVES:
+                faults.append(f'{where} makes a vector by hand')
+            if 'bytes32(' in f.body and crate.name not in WHOLE_WORDS:
+                faults.append(f'{where} has the bytes of a whole word')
     return count
 
 
