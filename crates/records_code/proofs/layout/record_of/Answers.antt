@@ -21,10 +21,11 @@ returns c = let m = c.args.macroblock in
     let motion = c.motion_of-motion.ensures in
     let forward = c.motion_of-motion.result.forward in
     let recorded = recordable_numbers m.case in
+    let second : c.put_halves-2.new.bytes ≡ sets c.put_halves.new.bytes 16 (bytes_of 4 forward) = c.put_halves-2.ensures in
     put 0 (bytes_of 2 m.column) c.put-3.ensures c.bytes16-3.ensures
     (put 2 (bytes_of 2 m.row) c.put-2.ensures c.bytes16-2.ensures
     (put 4 (bytes_of 2 m.upper) c.put.ensures c.bytes16.ensures
-    (put 16 (bytes_of 4 forward) c.put_halves-2.ensures refl
+    (put 16 (bytes_of 4 forward) second refl
     c.put_halves.ensures)))
     ∙ spelled m
     (omega arith)
