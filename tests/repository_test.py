@@ -396,7 +396,6 @@ class Contracts(Tree):
         self.write('crates/one_code/src/lib.rt', '// fn wide(n: u8)\n')
         self.refuses(check, 'was not found')
 
-
     def test_handed(self):
         def write(body):
             self.write('crates/one_code/src/lib.rt', BASE['crates/one_code/src/lib.rt'].replace('    n as u32', f'    {body}'))

@@ -138,7 +138,7 @@ def std_bodies(name, signed):
 # What takes a word apart or makes a number of a component: what it is handed has to stand there already.
 HANDED = re.compile(r'\b(halves_of|vector_of|biased)\(([^()]*)')
 
-# The one crate that has a whole word's bytes of std, which are quotients and remainders: a record's words are put into it by their halves.
+# The crates that have a whole word's bytes of std, which are quotients and remainders: a record's words are put into it by their halves.
 WHOLE_WORDS = {'fields_code', 'mounts_code'}
 
 
