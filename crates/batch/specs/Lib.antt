@@ -5,5 +5,6 @@ pub mod Numbers
 pub mod Reports
 pub mod Touched
 pub mod Walk
+pub mod Passing
 pub mod Outcomes
 pub mod Listed

@@ -19,7 +19,10 @@ use Rattle.commands.specs.Commands.{next_in, by_next}
 use Rattle.commands.specs.declared.NextCommand.{NextCommand}
 use Rattle.commands.specs.declared.NextCommand.TheVariants.{Unknown, Incomplete, Whole}
 use Rattle.batch.specs.Walk.{Walk, going, stopped, limit, after, step, walk_of}
-use Rattle.std.specs.Prelude.{Ok}
+use Rattle.std.specs.Prelude.{Ok, Err}
+use Rattle.answers.specs.Answers.{fault_at}
+use Rattle.progress.specs.Progress.{Verdict}
+use Rattle.headers.specs.declared.Header.{Header}
 use Rattle.batch.proofs.WalkLaws.{stays, walk_next, full, used_within}
 
 -- by what stands there: refused by 2, in progress, or a whole command judged and the words behind it
@@ -40,6 +43,14 @@ turn_next base at p ws c e l m s =
     by Unknown = refl
     by Incomplete = refl
     by (Whole h n) = let n' : at + n - at ≡ n = omega arith in rw (n', ← drop-drop n at ws, ← add_assoc base at n) refl
+
+-- what the words come to, by the verdict on that command
+pub judged_there : (base at : ℕ) (p : Progress) (ws : List ℕ) (h : Header) (n : ℕ) (v : Verdict) → p.stage.ended ≡ false → base + length ws ≤ limit
+    → at ≤ length ws → Whole h n ≡ next_in (drop at ws) → judge h p (take (at + n - at) (drop at ws)) ≡ v
+    → foldl step (going (base + at) p []) (drop at ws) ≡ foldl step (after (base + at) (base + (at + n)) v) (drop (at + n) ws)
+judged_there base at p ws h n v e l m w j =
+    turn_next base at p ws (Whole h n) e l m w
+    ∙ ap (λ (x : Verdict). foldl step (after (base + at) (base + (at + n)) x) (drop (at + n) ws)) j
 
 module _ (base at : ℕ) (p : Progress) (ws : List ℕ) (l : base + length ws ≤ limit) (m : at < length ws) where
   first_word : foldl step (going (base + at) p []) (drop at ws)
@@ -67,10 +78,14 @@ module _ (base at : ℕ) (p : Progress) (ws : List ℕ) (l : base + length ws �
       ∙ simp (add-zero, lt-leb limit (base + at) (omega arith), e, ne_eqb (word_at ws at) 0 z)
       (stays 12 (base + at) (drop (at + 1) ws))
 
--- Before the first group a carried command changes nothing.
+-- Before the first group a carried command changes nothing, and after it it is out of sequence.
 pub carried_passes : (n : ℕ) (p : Progress) (ws : List ℕ) → not p.stage.grouped ≡ true → judge (Carried n) p ws ≡ Ok p
 unfolding judge rules_of next_of
 carried_passes n p ws e = rw e refl
+
+pub carried_late : (n : ℕ) (p : Progress) (ws : List ℕ) → p.stage.grouped ≡ true → judge (Carried n) p ws ≡ Err (fault_at 3 0)
+unfolding judge rules_of next_of
+carried_late n p ws e = rw e refl
 
 -- at the end of the run nothing is left
 pub finished : (base at : ℕ) (p : Progress) (ws : List ℕ) → length ws ≤ at

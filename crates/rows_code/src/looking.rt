@@ -155,8 +155,7 @@ impl Look {
     // The bounds on the count, here and in `touched`, are of the words, which no value here holds.
 
     // The first byte that is touched of the reference after so many commands, where `first` is the one before them. The look ends
-    // where no block from there on can begin before it, which in most rows is at once. It is kept out of the row's loop, and `touched` is put in,
-    // so that a row that touches nothing of the reference makes no call.
+    // where no block from there on can begin before it, which in most rows is at once. It is kept out of the loop over the row.
     #[inline(never)]
     fn first_after(self, first: u64, count: usize, words: &[u32]) -> u64
         requires { (9 * count ≤ length words.now) × (self.position.column + count < 65536) × VectorsFit (points_in self.alone self.word self.allowed) self.surface self.position words.now (across_of self.grid self.codes) (down_of self.grid self.codes) count }
@@ -174,18 +173,13 @@ impl Look {
         lowest
     }
 
-    // What is touched of the reference after so many commands, which touch it up to `end`.
+    // What is touched of the reference after so many commands, which touch some of it, up to `end`.
     #[inline(always)]
-    #[tactic(auto, using(rows::proofs::TouchedLaws::after_nothing))]
     pub(crate) fn touched(self, extent: Extent, end: u64, count: usize, words: &[u32]) -> Extent
-        requires { (9 * count ≤ length words.now) × (self.position.column + count < 65536) × (end ≡ (touched_after (points_in self.alone self.word self.allowed) self.surface self.position words.now count extent).end) × VectorsFit (points_in self.alone self.word self.allowed) self.surface self.position words.now (across_of self.grid self.codes) (down_of self.grid self.codes) count }
+        requires { (9 * count ≤ length words.now) × (self.position.column + count < 65536) × (0 < end) × (end ≡ (touched_after (points_in self.alone self.word self.allowed) self.surface self.position words.now count extent).end) × VectorsFit (points_in self.alone self.word self.allowed) self.surface self.position words.now (across_of self.grid self.codes) (down_of self.grid self.codes) count }
         ensures { result ≡ touched_after (points_in self.alone self.word self.allowed) self.surface self.position words.now count extent }
     {
-        let first = if end == 0 {
-            extent.first
-        } else {
-            self.first_after(lowest(extent), count, words)
-        };
+        let first = self.first_after(lowest(extent), count, words);
         Extent { first, end }
     }
 }

@@ -1,12 +1,13 @@
 // A row of macroblocks.
 ghost use Rattle.std.specs.Prelude.{◌≡◌, ℕ, ◌+◌, ◌*◌, ◌-◌, ◌/◌, ◌≤◌, ◌<◌, length};
 ghost use Rattle.rows.specs.Rows.{TakenFrom, AfterRow, OpenRow};
-ghost use Rattle.rows.specs.Touching.{Seen};
+ghost use Rattle.rows.specs.Touching.{forward_after, backward_after, Seen};
 ghost use Rattle.rows.specs.Words.{due_bits};
 
 use crate::after;
 use crate::looking::Look;
 use crate::stepping::Row;
+use prediction::Extent;
 use progress::{Progress, Taken};
 use rows::Ends;
 
@@ -34,6 +35,33 @@ fn limit_of(words: usize, first: u16, columns: u16) -> u16
 
 // The bounds on the count are of the words, which no value here holds.
 
+// What is touched of a reference after so many commands, which touch it up to `end`. A look is made ready only where that is something.
+#[inline(always)]
+#[tactic(auto, using(rows::proofs::TouchedLaws::after_nothing))]
+fn forward_after(progress: Progress, end: u64, count: usize, words: &[u32]) -> Extent
+    requires { (9 * count ≤ length words.now) × (progress.position.column + count < 65536) × ((b : ℕ) × Seen progress words.now count end b) }
+    ensures { result ≡ forward_after progress words.now count }
+{
+    let extent = progress.extents.forward;
+    if end == 0 {
+        return Extent { end, ..extent };
+    }
+    Look::forward(progress).touched(extent, end, count, words)
+}
+
+#[inline(always)]
+#[tactic(auto, using(rows::proofs::TouchedLaws::after_nothing))]
+fn backward_after(progress: Progress, end: u64, count: usize, words: &[u32]) -> Extent
+    requires { (9 * count ≤ length words.now) × (progress.position.column + count < 65536) × ((f : ℕ) × Seen progress words.now count f end) }
+    ensures { result ≡ backward_after progress words.now count }
+{
+    let extent = progress.extents.backward;
+    if end == 0 {
+        return Extent { end, ..extent };
+    }
+    Look::backward(progress).touched(extent, end, count, words)
+}
+
 // What the commands before word `at` come to. `ends` are those of what they touch of the references.
 fn taken(progress: Progress, at: usize, ends: Ends, words: &[u32]) -> Taken
     requires { (at ≤ length words.now) × (progress.position.column + at / 9 < 65536) × (1 ≤ at → 9 ≤ at) × Seen progress words.now (at / 9) ends.forward ends.backward }
@@ -43,21 +71,10 @@ fn taken(progress: Progress, at: usize, ends: Ends, words: &[u32]) -> Taken
         return Taken { progress, used: 0 };
     }
     let count = at / 9;
-    let start = at - 9;
-    let last = progress.position.column + (start / 9) as u16;
-    let backward = Look::backward(progress).touched(
-        progress.extents.backward,
-        ends.backward,
-        count,
-        words,
-    );
-    let forward = Look::forward(progress).touched(
-        progress.extents.forward,
-        ends.forward,
-        count,
-        words,
-    );
-    let next = after::after_row(progress, last, forward, backward, &words[start..at]);
+    let last = progress.position.column + (count - 1) as u16;
+    let backward = backward_after(progress, ends.backward, count, words);
+    let forward = forward_after(progress, ends.forward, count, words);
+    let next = after::after_row(progress, last, forward, backward, &words[at - 9..at]);
     Taken {
         progress: next,
         used: at,
