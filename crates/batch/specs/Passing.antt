@@ -10,7 +10,7 @@ use Rattle.commands.specs.declared.NextCommand.TheVariants.{Whole}
 use Rattle.batch.specs.Walk.{going, step}
 
 -- From word `from` of a run of words on to word `at`, words that change nothing: the fold goes on at `at` with the same progress. There the words
--- end, or one stands that is not zero; and no carried command stands there before the first group.
+-- end, or one stands that is not zero; and, unless END has come, no carried command stands there before the first group.
 pub record PassedOver (p : Progress) (base from : ℕ) (ws : List ℕ) (at : ℕ) : Type 0 where
   pub later : from ≤ at
   pub within : at ≤ length ws

@@ -9,7 +9,7 @@ use commands::NextCommand;
 use headers::{Header, MACROBLOCK_HEADER};
 use progress::{Progress, Taken};
 
-// The word behind those, from one on, that change nothing: a zero word, which is a NOOP before END and may follow END, and a carried command before the
+// The word behind those, from one on, that change nothing: a zero word, which is a NOOP before END and may follow END, and, unless END has come, a carried command before the
 // first group. They are passed over in a loop of their own: among turns that change the progress, the compiler makes what a row needs of it anew
 // for each of them.
 #[inline(always)]
@@ -40,7 +40,7 @@ fn passed_over(progress: Progress, base: u32, from: usize, words: &[u32]) -> usi
     at
 }
 
-// A run of words that ends within the words that are judged. Commands are judged where they stand.
+// A run of words that ends within the words that are judged. What is not passed over is judged where it stands.
 fn walk_within(progress: Progress, base: u32, words: &[u32]) -> Result<Taken, Fault>
     requires { base + length words.now ≤ limit }
     ensures { walk_of base words.now result ≡ foldl step (going base progress []) words.now }

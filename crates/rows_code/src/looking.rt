@@ -173,7 +173,7 @@ impl Look {
         lowest
     }
 
-    // What is touched of the reference after so many commands, which touch some of it, up to `end`.
+    // What is touched of the reference after so many commands, by them or before them: some byte, and all below `end`.
     #[inline(always)]
     pub(crate) fn touched(self, extent: Extent, end: u64, count: usize, words: &[u32]) -> Extent
         requires { (9 * count ≤ length words.now) × (self.position.column + count < 65536) × (0 < end) × (end ≡ (touched_after (points_in self.alone self.word self.allowed) self.surface self.position words.now count extent).end) × VectorsFit (points_in self.alone self.word self.allowed) self.surface self.position words.now (across_of self.grid self.codes) (down_of self.grid self.codes) count }

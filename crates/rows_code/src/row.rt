@@ -35,7 +35,7 @@ fn limit_of(words: usize, first: u16, columns: u16) -> u16
 
 // The bounds on the count are of the words, which no value here holds.
 
-// What is touched of a reference after so many commands, which touch it up to `end`. A look is made ready only where that is something.
+// What is touched of a reference after so many commands, by them or before them, up to `end`. A look is made ready only where that is something.
 #[inline(always)]
 #[tactic(auto, using(rows::proofs::TouchedLaws::after_nothing))]
 fn forward_after(progress: Progress, end: u64, count: usize, words: &[u32]) -> Extent
